@@ -7,10 +7,10 @@ The page has classes of tokens and rules (its head explains the notation). Made 
 
     inf_syntax/specs/Words.antt     the words of the grammar
     inf_syntax/specs/Classes.antt   the classes, as sets of atoms
-    inf_syntax/specs/Parts.antt     a name for each part of a row
-    inf_syntax/specs/Table*.antt    the rows, rule by rule
+    inf_syntax/specs/Table.antt     the rows, rule by rule
     inf_grammar/specs/Facts.antt    what begins and follows each rule, whether it can be empty, and how many steps lead through it
-    inf_syntax/src/words.rt, inf_grammar/src/table.rt     the same for the program
+    inf_syntax/src/parts.rt         a name for each part of a row
+    inf_syntax/src/words.rt, inf_grammar/src/table.rt     words and rows for the program
     inf_syntax/src/actions.rt, inf_grammar/src/starts.rt  the actions, and the rules that reading may start with
 
 Nobody has to trust this script: that the program's tables are those of specs/, and that the facts hold of the rows, is proved.
@@ -248,8 +248,9 @@ def keyword(word):
     return "".join(part.capitalize() for part in word.split("_"))
 
 
-def snake(name):
-    return re.sub(r"(?<!^)(?=[A-Z])", "_", name).lower()
+def constant(name):
+    """The name of a constant: `EndText` is END_TEXT, `for-test` is FOR_TEST, NAME stays."""
+    return name if name.isupper() else re.sub(r"(?<!^)(?=[A-Z])", "_", name).replace("-", "_").upper()
 
 
 def rule_name(rule):
@@ -271,25 +272,23 @@ class Tables:
     def files(self):
         made = {
             "inf_syntax/specs/Words.antt": self.words_spec(), "inf_syntax/specs/Classes.antt": self.classes_spec(),
-            "inf_syntax/specs/Parts.antt": self.parts_spec(), "inf_grammar/specs/Facts.antt": self.facts_spec(),
+            "inf_syntax/specs/Table.antt": self.table_spec(), "inf_grammar/specs/Facts.antt": self.facts_spec(),
             "inf_syntax/src/words.rt": self.words_code(), "inf_grammar/src/table.rt": self.table_code(),
             "inf_syntax/src/actions.rt": self.actions_code(), "inf_grammar/src/starts.rt": self.starts_code(),
+            "inf_syntax/src/parts.rt": self.parts_code(),
         }
-        made.update(self.table_specs())
         return made
 
     # specs/
 
     def words_spec(self):
-        listed = "\n".join(f'    {"∷ " if at else ""}codes "{word}"' for at, word in enumerate(self.page.words))
-        keywords = "\n".join(f'    {"∷ " if at else ""}keyword.{keyword(word)}' for at, word in enumerate(self.page.words))
         return ("-- The words that the grammar knows, in the order of the alphabet. Made from docs/grammar.txt.\n"
                 "use Rattle.std.specs.Prelude.{ℕ, List, [], ◌∷◌, codes}\n"
                 "use Rattle.inf_syntax.specs.declared.words.Keyword.{Keyword}\n"
                 "use Rattle.inf_syntax.specs.declared.words.Keyword.TheVariants as keyword\n\n"
-                "abbrev pub words : List (List ℕ)\nwords =\n" + listed + "\n    ∷ []\n\n"
-                "-- the words of the grammar as keywords, in the order of `words`\n"
-                "unfoldable pub keywords : List Keyword\nkeywords =\n" + keywords + "\n    ∷ []\n")
+                + listed("words", "(List ℕ)", [f'codes "{word}"' for word in self.page.words])
+                + "\n-- the words of the grammar as keywords, in the order of `words`\n"
+                + listed("keywords", "Keyword", [f"keyword.{keyword(word)}" for word in self.page.words], "unfoldable"))
 
     def set_term(self, name):
         if name[0] == '"':
@@ -300,16 +299,14 @@ class Tables:
 
     def classes_spec(self):
         out = ["-- The classes of tokens, as sets of atoms. Made from docs/grammar.txt.",
-               "use Rattle.std.specs.Prelude.{ℕ, List, [], ◌∷◌, codes}",
+               "use Rattle.std.specs.Prelude.{ℕ, List, [], ◌∷◌, codes, map}",
                "use Rattle.inf_syntax.specs.Atoms.{of_mark, of_word, name, classname, number, char, word_literal, text, joined, without}",
                "use Rattle.inf_scanner.specs.declared.tokens.Mark.TheVariants as mark", ""]
         for kind, made in self.page.classes.items():
-            out += [f"abbrev pub {kind.lower()} : ℕ", f"{kind.lower()} = {self.made_term(made)}", ""]
-        out += ["-- each class, in the order of its number", "abbrev pub classes : List ℕ", "classes ="]
-        for at, part in enumerate(self.tokens):
-            term = {"WORD": "word_literal"}.get(part) or self.set_term(part)
-            out.append("    " + ("∷ " if at else "") + (f"({term})" if " " in term else term))
-        return "\n".join(out + ["    ∷ []", ""])
+            out += filled(f"abbrev pub {kind.lower()} : ℕ\n{kind.lower()} = {self.made_term(made)}") + [""]
+        terms = [{"WORD": "word_literal"}.get(part) or self.set_term(part) for part in self.tokens]
+        return ("\n".join(out) + "\n-- each class, in the order of its number\n"
+                + listed("classes", "ℕ", [f"({term})" if " " in term else term for term in terms]))
 
     def made_term(self, made):
         sign, groups = "+", []
@@ -322,42 +319,24 @@ class Tables:
                 groups.append((sign, [word]))
         term = ""
         for sign, words in groups:
-            terms = [self.set_term(word) for word in words]
-            listed = " ∷ ".join(terms) + " ∷ []"
-            if sign == "-":
-                term = f"without ({term}) ({listed})" if " " in term else f"without {term} ({listed})"
+            if len(words) == 1 and not term:
+                term = self.set_term(words[0])
+            elif all(word[0] == "'" for word in words):
+                term = f"{with_others(sign, term)} (map of_word ({list_term([f'codes {chr(34)}{word[1:-1]}{chr(34)}' for word in words])}))"
             else:
-                term = terms[0] if len(terms) == 1 and not term else f"joined ({listed})"
+                term = f"{with_others(sign, term)} ({list_term([self.set_term(word) for word in words])})"
         return term
 
     def part_term(self, part):
-        """The name of a part in the tables of specs/."""
-        if part in self.rule_numbers:
-            return rule_name(part)
+        """The name of a part: that of a rule or a class, of a mark, of a word behind WORD, and of an action behind DO."""
         if part[0] == "@":
-            return "!" + snake(action(part))
-        if part[0] == '"':
-            return "'" + snake(MARKS[part[1:-1]]) + "'"
+            return "DO_" + constant(action(part))
         if part[0] == "'":
-            return "'" + part[1:-1] + "'" if not self.is_mark_name(part) else "'" + part[1:-1] + "_word'"
-        return part
-
-    def is_mark_name(self, part):
-        return part[1:-1] in {snake(name) for name in MARKS.values()}
-
-    def parts_spec(self):
-        out = ["-- A name for each part of a row: a token of a class in capitals or between quotes, an action behind a `!`, a rule.",
-               "-- Made from docs/grammar.txt.",
-               "use Rattle.inf_machine.specs.declared.symbols.Symbol.{Symbol}",
-               "use Rattle.inf_machine.specs.declared.symbols.Symbol.TheVariants.{Token, Rule, Act}",
-               "use Rattle.inf_syntax.specs.declared.actions.Action.{Action}",
-               "use Rattle.inf_syntax.specs.declared.actions.Action.TheVariants as action", ""]
-        terms = [(part, f"Token {number}") for number, part in enumerate(self.tokens)]
-        terms += [(part, f"Act action.{action(part)}") for part in self.actions]
-        terms += [(rule, f"Rule {number}") for rule, number in self.rule_numbers.items()]
-        for part, term in terms:
-            out += [f"abbrev pub {self.part_term(part)} : Symbol Action", f"{self.part_term(part)} = {term}"]
-        return "\n".join(out + [""])
+            return "WORD_" + constant(part[1:-1])
+        if part[0] == '"':
+            name = constant(MARKS[part[1:-1]])
+            return name + "_MARK" if name in map(constant, self.rule_numbers) else name
+        return constant(part)
 
     def row_term(self, rule, row):
         listed = " ∷ ".join([self.part_term(part) for part in row] + ["[]"])
@@ -367,55 +346,49 @@ class Tables:
                 return f"row_unless {self.tokens.index(barred)} ({listed})" if row else f"row_unless {self.tokens.index(barred)} []"
         return f"row ({listed})" if row else "row []"
 
-    def table_specs(self, size=80):
+    def table_spec(self, size=80):
+        names = sorted({self.part_term(part) for part in self.page.parts})
+        out = ["-- The rows of the rules, rule by rule. Made from docs/grammar.txt.", "use Rattle.std.specs.Prelude.{List, [], ◌∷◌}",
+               "use Rattle.inf_machine.specs.Grammar.{Row}", "use Rattle.inf_syntax.specs.{Rows.row, Rows.row_unless, declared.actions.Action.Action}"]
+        out += ["use Rattle.inf_syntax.specs.declared.parts.names.TheConstants as Part"] + uses("Part", names) + [""]
         rules = list(self.page.rules)
         chunks = [rules[at:at + size] for at in range(0, len(rules), size)]
-        made = {}
         for number, chunk in enumerate(chunks, 1):
-            used = sorted({self.part_term(p) for r in chunk for row in self.page.rules[r] for p in row})
-            out = ["-- The rows of some rules. Made from docs/grammar.txt.",
-                   "use Rattle.std.specs.Prelude.{List, [], ◌∷◌}",
-                   "use Rattle.inf_machine.specs.Grammar.{Row}",
-                   "use Rattle.inf_syntax.specs.declared.actions.Action.{Action}",
-                   "use Rattle.inf_syntax.specs.Rows.{row, row_unless}" if any(r in self.page.preferences for r in chunk) else "use Rattle.inf_syntax.specs.Rows.{row}",
-                   "use Rattle.inf_syntax.specs.Parts.{" + ", ".join(used) + "}", "",
-                   f"abbrev pub rules_{number} : List (List (Row Action))", f"rules_{number} ="]
+            out += [f"abbrev pub rules_{number} : List (List (Row Action))", f"rules_{number} ="]
             for at, rule in enumerate(chunk):
-                rows = self.page.rules[rule]
-                head = "    " + ("∷ " if at else "")
-                out.append(f"    -- the rows of rule `{rule_name(rule)}`")
-                out.append(head + "(" + "\n        ∷ ".join(self.row_term(rule, row) for row in rows) + "\n        ∷ [])")
-            made[f"inf_syntax/specs/Table{number}.antt"] = "\n".join(out + ["    ∷ []", ""])
-        return made
+                first, *rows = [self.row_term(rule, row) + " ∷" for row in self.page.rules[rule]]
+                lines = packed([("∷ (" if at else "(") + first] + rows + ["[])"], " ", WIDE - len(rule) - 5)
+                begin = len(out)
+                out += [line for long in lines for line in filled(long, "", "    ")]
+                out[begin] += f"  -- {rule_name(rule)}"
+            out += ["    ∷ []", ""]
+        return "\n".join(out)
 
     def facts_spec(self):
-        def listed(name, kind, values):
-            return "\n".join([f"abbrev pub {name} : List {kind}", f"{name} ="]
-                             + ["    " + ("∷ " if at else "") + " ∷ ".join(values[at:at + 4]) for at in range(0, len(values), 4)]
-                             + ["    ∷ []", ""])
         rules = list(self.page.rules)
         return ("-- Facts computed of each rule, in the order of their numbers. Made from docs/grammar.txt; that they hold is proved.\n"
                 "use Rattle.std.specs.Prelude.{ℕ, List, [], ◌∷◌, Bool, true, false}\n\n"
-                "-- the atoms that begin each rule\n" + listed("beginnings", "ℕ", [hex(self.facts.begins[r]) for r in rules])
-                + "\n-- the atoms that may stand behind each rule\n" + listed("followers", "ℕ", [hex(self.facts.follows[r]) for r in rules])
-                + "\n-- tells of each rule whether it can be empty\n" + listed("empties", "Bool", ["true" if self.facts.empty[r] else "false" for r in rules])
-                + "\n-- a number above that of the steps through each rule to a token\n" + listed("step_bounds", "ℕ", [str(self.facts.steps[r]) for r in rules]))
+                "-- the atoms that begin each rule\n"
+                + listed("beginnings", "ℕ", [hex(self.facts.begins[rule]) for rule in rules], wide=230)
+                + "\n-- the atoms that may stand behind each rule\n"
+                + listed("followers", "ℕ", [hex(self.facts.follows[rule]) for rule in rules], wide=230)
+                + "\n-- tells of each rule whether it can be empty\n"
+                + listed("empties", "Bool", ["true" if self.facts.empty[rule] else "false" for rule in rules])
+                + "\n-- a number above that of the steps through each rule to a token\n"
+                + listed("step_bounds", "ℕ", [str(self.facts.steps[rule]) for rule in rules]))
 
     # src/
 
     def words_code(self):
-        words = "".join(f'    b"{word}",\n' for word in self.page.words)
-        variants = "".join(f"    {keyword(word)},\n" for word in self.page.words)
+        variants = [keyword(word) for word in self.page.words]
         count = len(self.page.words)
         return ("//! The words that the grammar knows, and where to look for one. Made from docs/grammar.txt.\n\n"
-                "/// A word that the grammar knows.\n"
-                "#[derive(Clone, Copy, Debug, PartialEq, Eq)]\npub enum Keyword {\n" + variants + "}\n\n"
-                "/// The words, in the order of the alphabet.\n"
-                f"pub(crate) static WORDS: [&[u8]; {count}] = [\n{words}];\n"
+                + enum("Keyword", "A word that the grammar knows.", variants)
+                + static("WORDS", "The words, in the order of the alphabet.", "&[u8]", [f'b"{word}"' for word in self.page.words])
                 + static("KEYWORDS", "The words as keywords, in the same order.", "Keyword",
-                         [f"Keyword::{keyword(word)}" for word in self.page.words], 5)
+                         [f"Keyword::{keyword(word)}" for word in self.page.words])
                 + static("SLOTS", f"The place of the word with each slot: {count} where there is none.", "u8",
-                         [str(place) for place in self.word_slots()], 26))
+                         [str(place) for place in self.word_slots()]))
 
     def word_slots(self):
         """The place of the word with each slot. `slot` has to tell all words apart: other factors of it may be needed for other words."""
@@ -425,6 +398,16 @@ class Tables:
                 raise ValueError(f"{word} and {self.page.words[found[slot(word)]]} have one slot")
             found[slot(word)] = place
         return found
+
+    def parts_code(self):
+        terms = [f"{self.part_term(part)}: Part = Token({number});" for number, part in enumerate(self.tokens)]
+        terms += [f"{self.part_term(part)}: Part = Act(Do::{action(part)});" for part in self.actions]
+        terms += [f"{self.part_term(rule)}: Part = Rule({number});" for rule, number in self.rule_numbers.items()]
+        return ("//! A name for each part of a row: a class of tokens, an action, or a rule. Made from docs/grammar.txt.\n"
+                "use crate::actions::Action;\nuse inf_machine::Symbol;\n\n/// A part of a row.\npub type Part = Symbol<Action>;\n\n"
+                "/// The names of the parts.\n#[rattlefmt::skip]\npub mod names {\n    use super::Part;\n    use crate::actions::Action as Do;\n"
+                "    use inf_machine::Symbol::{Act, Rule, Token};\n\n"
+                + "\n".join(packed([f"pub const {term}" for term in terms], " ")) + "\n}\n")
 
     def part_code(self, part):
         if part in self.rule_numbers:
@@ -436,33 +419,38 @@ class Tables:
     def table_code(self):
         parts, rows, rules = [], [], []
         for rule, alternatives in self.page.rules.items():
-            first, other = len(rows), span_code(0, 0)
+            first, other = len(rows), (0, 0)
             for row in alternatives:
                 begins, empty = self.facts.beginning(row)
-                span = span_code(len(parts), len(parts) + len(row))
+                span = (len(parts), len(parts) + len(row))
                 other = span if empty and self.facts.actions_past(row) else other
-                rows.append(f"Row {{ begins: {set_code(begins)}, parts: {span} }}")
+                rows.append(numbers(*limbs(begins), *span))
                 parts += [self.part_code(part) for part in reversed(row)]
-            rules.append(f"Rule {{ begins: {set_code(self.facts.begins[rule])}, is_empty: {str(self.facts.empty[rule]).lower()}, "
-                         f"rows: {span_code(first, len(rows))}, other: {other} }}")
-        classes = [set_code(self.atoms.of(part)) for part in self.tokens]
+            empty = str(self.facts.empty[rule]).lower()
+            rules.append(numbers(*limbs(self.facts.begins[rule]), empty, first, len(rows), *other))
+        classes = [numbers(*limbs(self.atoms.of(part))) for part in self.tokens]
         head = ("//! The grammar as the machine reads it, in numbers. Made from docs/grammar.txt.\n"
                 "use crate::rules::{Row, Rule, Set, Span};\n"
-                "use inf_machine::Symbol::{self, Act, Rule as Text, Token};\nuse inf_syntax::Action as Do;\n")
-        return (head + static("CLASSES", "The atoms of each class.", "Set", classes)
-                + static("PARTS", "The parts of all rows, row by row, the last part of a row first.", "Symbol<Do>", parts, 8)
-                + static("ROWS", "All rows, rule by rule.", "Row", rows)
-                + static("RULES", "The rules, by their numbers.", "Rule", rules))
+                "use inf_machine::Symbol::{self, Act, Rule as Text, Token};\nuse inf_syntax::Action as Do;\n\n"
+                "/// Sets, each as four numbers of 64 bits, the lowest first.\n" + macro("sets", "abcd", "Set([$a, $b, $c, $d])")
+                + "\n/// Rows: the set of the atoms that begin a row, and where its parts are.\n"
+                + macro("rows", "abcdse", "Row { begins: Set([$a, $b, $c, $d]), parts: Span { start: $s, end: $e } }")
+                + "\n/// Rules: the set of the atoms that begin a rule, whether it can be empty, and where its rows and its other parts are.\n"
+                + macro("rules", "abcdnseoz", "Rule { begins: Set([$a, $b, $c, $d]), is_empty: $n, rows: Span { start: $s, end: $e }, "
+                        "other: Span { start: $o, end: $z } }"))
+        return (head + static("CLASSES", "The atoms of each class.", "Set", classes, "sets!")
+                + static("PARTS", "The parts of all rows, row by row, the last part of a row first.", "Symbol<Do>", parts)
+                + static("ROWS", "All rows, rule by rule.", "Row", rows, "rows!")
+                + static("RULES", "The rules, by their numbers.", "Rule", rules, "rules!"))
 
     def starts_code(self):
-        listed = "".join(f"\n/// {means}\npub const {rule_name(rule).upper()}: u8 = {self.rule_numbers[rule]};\n" for rule, means in STARTS.items())
+        listed = "".join(f"\n/// {means}\npub const {constant(rule)}: u8 = {self.rule_numbers[rule]};\n" for rule, means in STARTS.items())
         return "//! The rules that reading may start with. Made from docs/grammar.txt.\n" + listed
 
     def actions_code(self):
-        listed = "".join(f"    {action(part)},\n" for part in self.actions)
         return ("//! The actions of the grammar. Made from docs/grammar.txt.\n\n"
-                "/// An action of the grammar. Where it speaks of the last token, that is the one taken last.\n"
-                "#[derive(Clone, Copy, Debug, PartialEq, Eq)]\npub enum Action {\n" + listed + "}\n")
+                + enum("Action", "An action of the grammar. Where it speaks of the last token, that is the one taken last.",
+                       [action(part) for part in self.actions]))
 
 
 SLOTS = 256
@@ -481,13 +469,13 @@ STARTS = {
 }
 
 
-def set_code(atoms):
+def limbs(atoms):
     """A set of atoms as four numbers of 64 bits, the lowest first."""
-    return "Set([" + ", ".join(hex(atoms >> at & (1 << 64) - 1) for at in (0, 64, 128, 192)) + "])"
+    return [hex(atoms >> at & (1 << 64) - 1).replace("0x0", "0") for at in (0, 64, 128, 192)]
 
 
-def span_code(start, end):
-    return f"Span {{ start: {start}, end: {end} }}"
+def numbers(*items):
+    return " ".join(map(str, items))
 
 
 def slot(word):
@@ -496,10 +484,66 @@ def slot(word):
     return (letters[0] + 5 * letters[2] + 61 * letters[len(word) - 1] + 16 * (len(word) % 16)) % SLOTS
 
 
-def static(name, means, kind, items, wide=1):
-    """A table of the program, so many items a line."""
-    lines = ["    " + ", ".join(items[at:at + wide]) + "," for at in range(0, len(items), wide)]
-    return (f"\n/// {means}\n#[rattlefmt::skip]\npub(crate) static {name}: [{kind}; {len(items)}] = [\n"
+# Layout
+
+WIDE = 140
+
+
+def packed(items, join, wide=WIDE, indent="    "):
+    """Lines that begin with `indent`, each with the items that fit in."""
+    lines = []
+    for item in items:
+        if lines and len(lines[-1]) + len(join) + len(item) <= wide:
+            lines[-1] += join + item
+        else:
+            lines.append(indent + item)
+    return lines
+
+
+def filled(text, indent="", more="    "):
+    """The lines of a definition, those that are too long divided behind a `∷`."""
+    lines = []
+    for line in text.split("\n"):
+        first, *others = packed(re.split("(?<=∷) ", line), " ", WIDE - len(indent + more), "")
+        lines += [indent + first] + [indent + more + other for other in others]
+    return lines
+
+
+def list_term(items):
+    return " ∷ ".join(items + ["[]"])
+
+
+def listed(name, kind, items, mark="abbrev", wide=WIDE):
+    """The definition of a list."""
+    lines = packed([item + " ∷" for item in items] + ["[]"], " ", wide)
+    return "\n".join([f"{mark} pub {name} : List {kind}", f"{name} ="] + lines + [""])
+
+
+def with_others(sign, term):
+    return "joined" if sign == "+" else f"without ({term})" if " " in term else f"without {term}"
+
+
+def uses(module, names):
+    """The lines that bring names of a module into a file of definitions."""
+    return [f"use {module}.{{{line}}}" for line in packed(names, ", ", WIDE - len(module) - 7, "")]
+
+
+def enum(name, means, variants):
+    """A type of variants that have no fields."""
+    lines = packed([variant + "," for variant in variants], " ")
+    return (f"/// {means}\n#[rattlefmt::skip]\n#[derive(Clone, Copy, Debug, PartialEq, Eq)]\npub enum {name} {{\n" + "\n".join(lines) + "\n}\n")
+
+
+def macro(name, letters, item):
+    """A macro that makes an array of items, each of literals of its own."""
+    taken = " ".join(f"${letter}:literal" for letter in letters)
+    return f"macro_rules! {name} {{\n    ($({taken}),*) => {{\n        [$({item}),*]\n    }};\n}}\n"
+
+
+def static(name, means, kind, items, made_by=""):
+    """A table of the program."""
+    lines = packed([item + "," for item in items[:-1]] + items[-1:], " ")
+    return (f"\n/// {means}\n#[rattlefmt::skip]\npub(crate) static {name}: [{kind}; {len(items)}] = {made_by}[\n"
             + "\n".join(lines) + "\n];\n")
 
 

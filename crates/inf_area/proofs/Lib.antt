@@ -1,3 +1,4 @@
 pub mod Moving
 pub mod Paging
 pub mod Joining
+pub mod Sums

@@ -11,8 +11,7 @@ length-front to from k xs before within =
 -- a byte that is to be moved has not been written over
 pub moved_get : (to from k : ℕ) (xs : List ℕ) → to ≤ from → from + k < length xs →
     get_or (moved to from k xs) (from + k) 0 ≡ get_or xs (from + k) 0
-moved_get to from k xs before within =
-    get_or-append_right (take to xs ++ take k (drop from xs)) (drop (to + k) xs) (to + k) (from + k) 0
+moved_get to from k xs before within = get_or-append_right (take to xs ++ take k (drop from xs)) (drop (to + k) xs) (to + k) (from + k) 0
     (length-front to from k xs before (omega arith)) (omega arith)
     ∙ get_or-drop (to + k) xs (from + k - (to + k)) 0
     ∙ ap (λ i. get_or xs i 0) (omega arith)
@@ -36,8 +35,7 @@ moved_more to from k byte xs before within is =
 
 -- nothing is moved yet
 pub moved_none : (to from n : ℕ) (xs : List ℕ) → n ≡ 0 → to ≤ from → from ≤ length xs → xs ≡ moved to from n xs
-moved_none to from n xs e before within =
-    sym (take-append-drop to xs) ∙ ap (λ i. take to xs ++ drop i xs) (omega arith)
+moved_none to from n xs e before within = sym (take-append-drop to xs) ∙ ap (λ i. take to xs ++ drop i xs) (omega arith)
     ∙ ap (λ ys. ys ++ drop (to + 0) xs) (sym (append-nil (take to xs)))
     ∙ ap (λ i. moved to from i xs) (sym e)
 
@@ -49,6 +47,5 @@ take_moved to from n xs before whole =
     ∙ ap (λ ys. take to xs ++ ys) (take_all n (drop from xs) (omega (arith, length-drop from xs)))
 
 pub moved_length : (to from n : ℕ) (xs : List ℕ) → to ≤ from → from + n ≤ length xs → length (moved to from n xs) ≡ length xs
-moved_length to from n xs before within =
-    length-append (take to xs ++ take n (drop from xs)) (drop (to + n) xs)
+moved_length to from n xs before within = length-append (take to xs ++ take n (drop from xs)) (drop (to + n) xs)
     ∙ omega (arith, length-front to from n xs before within, length-drop (to + n) xs)

@@ -19,8 +19,7 @@ with_bytes-left xs ys at bytes le =
     ∙ sym (append_assoc (take at xs ++ bytes) (drop n xs) ys)
 
 -- bytes that are set within the second list
-with_bytes-right : (xs ys : List ℕ) (at : ℕ) (bytes : List ℕ) →
-    with_bytes (xs ++ ys) (length xs + at) bytes ≡ xs ++ with_bytes ys at bytes
+with_bytes-right : (xs ys : List ℕ) (at : ℕ) (bytes : List ℕ) → with_bytes (xs ++ ys) (length xs + at) bytes ≡ xs ++ with_bytes ys at bytes
 with_bytes-right xs ys at bytes =
     let n = at + length bytes in
     let sum : length xs + at + length bytes ≡ length xs + n = omega arith in
@@ -119,8 +118,7 @@ module _ (X : Type 0) (f : X → List ℕ) where
 
   pub take_push : (xs : List X) (y : X) (n : ℕ) → AllByRecursion (λ x. length (f x) ≡ 1024) xs → n ≤ 1024 * length xs →
       take n (flat_map f (xs ++ y ∷ [])) ≡ take n (flat_map f xs)
-  take_push xs y n whole within =
-      ap (take n) (flat_map-append f xs (y ∷ []))
+  take_push xs y n whole within = ap (take n) (flat_map-append f xs (y ∷ []))
       ∙ take-append-le n (flat_map f xs) (flat_map f (y ∷ [])) (omega (arith, length-pages xs whole))
 
   -- the first bytes of pages are the first of one page, and those of the pages behind it

@@ -4,3 +4,4 @@ pub mod Pages
 pub mod Words
 pub mod Cells
 pub mod Scales
+pub mod Sums

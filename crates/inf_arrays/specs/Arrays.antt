@@ -1,7 +1,7 @@
 -- The arrays of a story: each is its kind and its entries; the last one may be open.
 use Rattle.std.specs.Prelude.{ℕ, ◌+◌, ◌*◌, ◌≤◌, List, [], ◌∷◌, ◌++◌, Option, Some, None, Bool, true, false, nat_lt, length, map, option_map}
 use Rattle.std.specs.Prelude.{option_to_list, replicate, if◌then◌else◌}
-use Rattle.inf_area.specs.{declared.cells.Cell.Cell, declared.targets.Value.Value}
+use Rattle.inf_area.specs.{Sums.sum_of, declared.cells.Cell.Cell, declared.targets.Value.Value}
 use Rattle.inf_settings.specs.{Bounds.Limits, declared.setting.Setting.Setting}
 use Rattle.inf_arrays.specs.{declared.arrays.ArrayFault.ArrayFault, declared.kinds.ArrayKind.ArrayKind}
 use Rattle.inf_arrays.specs.Kinds.{are_bytes, count_cells, count_size, entries_cells, entry_size, laters_of, misfit_by}
@@ -48,13 +48,11 @@ abbrev pub array_size : Listed → ℕ
 array_size array = count_size array.kind + entry_size array.kind * length array.entries
 
 abbrev pub arrays_size : List Listed → ℕ
-arrays_size [] = 0
-arrays_size (array ∷ arrays) = array_size array + arrays_size arrays
+arrays_size arrays = sum_of array_size arrays
 
 -- the number of entries that are known later
 abbrev pub arrays_laters : List Listed → ℕ
-arrays_laters [] = 0
-arrays_laters (array ∷ arrays) = laters_of array.kind array.entries + arrays_laters arrays
+arrays_laters arrays = sum_of (λ array. laters_of array.kind array.entries) arrays
 
 -- Tells whether an array is open and there is room for `added` more entries.
 abbrev pub RoomIn : Limits → Option Listed → ℕ → AllArrays → Type 0

@@ -2,7 +2,7 @@
 -- 2.4).
 use Rattle.std.specs.Prelude.{ℕ, ◌+◌, ◌*◌, ◌/◌, ◌%◌, List, [], ◌∷◌, ◌++◌, Option, Some, None, Bool, true, false, ◌&&◌, not, nat_le, nat_lt}
 use Rattle.std.specs.Prelude.{length, if◌then◌else◌}
-use Rattle.inf_area.specs.{Cells.values_cells, Cells.word_cells, declared.cells.Cell.Cell, declared.targets.Value.Value}
+use Rattle.inf_area.specs.{Cells.values_cells, Cells.word_cells, Sums.sum_of, declared.cells.Cell.Cell, declared.targets.Value.Value}
 use Rattle.inf_arrays.specs.{declared.arrays.ArrayFault.ArrayFault, declared.kinds.ArrayKind.ArrayKind}
 
 -- whether an entry is a byte
@@ -46,8 +46,7 @@ later_in (Value.Known number) = 0
 later_in (Value.Later target) = 1
 
 abbrev pub laters : List Value → ℕ
-laters [] = 0
-laters (v ∷ values) = later_in v + laters values
+laters values = sum_of later_in values
 
 abbrev pub laters_of : ArrayKind → List Value → ℕ
 laters_of k values = if is_of_bytes k then 0 else laters values

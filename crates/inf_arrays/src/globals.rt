@@ -86,7 +86,7 @@ impl Globals {
     /// Adds a variable with its first value. Returns its number, which counts from 16.
     ///
     /// The call is refused first where there are 235, then for want of memory; the variables then stay unchanged.
-    #[tactic(auto, using(crate::proofs::Sizes::laters_joined))]
+    #[tactic(auto, using(inf_area::proofs::Sums::sum_of_push))]
     pub fn add(&mut self, value: Value) -> Result<u8, GlobalFault>
         ensures ok { OnOk result (self.new ≡ self.old ++ value ∷ []) }
         ensures number { IfOk result (λ number. number ≡ 16 + length self.old) }

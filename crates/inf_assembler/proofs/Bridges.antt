@@ -111,11 +111,9 @@ squeezed_special long places what cells mid from to xs before within e next (Som
     ∙ ap (λ k. n + k) (length-append special (long_bytes cells) ∙ ap (λ k. k + length (long_bytes cells)) (length-special what)) in
     let within_n : from + n ≤ length xs = omega (arith, long_all, length-drop from xs) in
     let room : to + n + length added ≤ length xs = omega (arith, long_all, length-drop from xs, size, small) in
-    let front : take new ys ≡ take to xs ++ mid ++ added =
-    take-placed_all to from n added xs before within_n room
+    let front : take new ys ≡ take to xs ++ mid ++ added = take-placed_all to from n added xs before within_n room
     ∙ ap (λ zs. take to xs ++ zs ++ added) (ap (take n) e ∙ take_at mid (special ++ long_bytes cells) n refl) in
-    let behind : drop old ys ≡ long_bytes cells =
-    drop-placed to from n added xs before within_n room old (omega (arith, size, small))
+    let behind : drop old ys ≡ long_bytes cells = drop-placed to from n added xs before within_n room old (omega (arith, size, small))
     ∙ ap (λ k. drop k xs) (omega arith) ∙ sym (drop-drop (n + special_size what) from xs)
     ∙ ap (drop (n + special_size what)) (e ∙ sym (append_assoc mid special (long_bytes cells)))
     ∙ drop_at (mid ++ special) (long_bytes cells) (n + special_size what)
@@ -151,8 +149,7 @@ squeezed_cells long places ((Plain byte) ∷ cells) mid from to xs before within
 squeezed_cells long places ((Of what) ∷ cells) mid from to xs before within e =
     let n = length mid in
     let back : from + n - from ≡ n = omega arith in
-    let whole : ℕ → Option (List ℕ) =
-    λ k. with_bytes (λ added. squeezed long places (from + n + special_size what) (to + k + length added)
+    let whole : ℕ → Option (List ℕ) = λ k. with_bytes (λ added. squeezed long places (from + n + special_size what) (to + k + length added)
     (kept_from (from + n + special_size what) cells) (placed_bytes to from k added xs))
     (closed_special long places (from + n) (to + k) what) in
     let next : (from to : ℕ) (xs : List ℕ) → to ≤ from → from ≤ length xs → drop from xs ≡ long_bytes cells → squeezed long places from to

@@ -1,6 +1,5 @@
 -- The limits that additions pass.
-use Rattle.std.proofs.Common.{◌≡◌, ℕ, ◌+◌, ◌≤◌, Bool, true, false, ltb, cond, List, length, Option, Some, None, refl, ◌∙◌, ap, arith}
-use Rattle.std.proofs.lemmas.Bool.Decides.{nat_tests}
+use Rattle.std.proofs.Common.{◌≡◌, ℕ, ◌+◌, List, length, ◌∙◌, ap, arith}
 use Rattle.inf_area.specs.Fixups.{Fixups}
 use Rattle.inf_opcode.specs.{Cells.fixup_count, Cells.label_count, Cells.long_bytes, Cells.plain, Counts.counts_of, Instructions.Parts}
 use Rattle.inf_opcode.specs.{Instructions.front_cells, Instructions.instruction_cells, declared.writing.Counts.Counts}
@@ -31,19 +30,3 @@ full_is parts state bytes refs len text more e f at =
     (fixups_are parts more e)
     ∙ ap (λ k. full_by (label_count (instruction_cells parts)) (length (long_bytes (instruction_cells parts)))
     (fixup_count (instruction_cells parts)) state k refs) at
-
-cond_none : {A : Type 0} (b : Bool) (x : A) (o : Option A) → cond b (Some x) o ≡ None → (b ≡ false) × (o ≡ None)
-cond_none true x o e = cc
-cond_none false x o e = (refl, e)
-
-not_below : (m n : ℕ) → ltb m n ≡ false → n ≤ m
-not_below m n e = grind (arith, nat_tests)
-
--- there is room where no limit is passed
-pub room_is : (labels bytes fixups len : ℕ) (state : State) (refs : Fixups) → full_by labels bytes fixups state len refs ≡ None
-    → (state.labels + labels ≤ state.limits.labels) × (length refs.list + state.fixups + fixups ≤ refs.limit)
-room_is labels bytes fixups len state refs e =
-    let first = cond_none (ltb state.limits.labels (state.labels + labels)) _ _ e in
-    let second = cond_none (ltb state.limits.code (len + bytes)) _ _ first.1 in
-    let third = cond_none (ltb refs.limit (length refs.list + state.fixups + fixups)) _ _ second.1 in
-    (not_below state.limits.labels (state.labels + labels) first.0, not_below refs.limit (length refs.list + state.fixups + fixups) third.0)

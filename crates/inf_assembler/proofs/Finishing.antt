@@ -46,8 +46,7 @@ module _ (start : ℕ) (contents : Contents) (kept : List Kept) (is : kept ≡ k
 
   pub missing_is : (long : List (Option ℕ)) → found long ≡ long_places start contents →
       kept_missing (found long) kept ≡ missing (long_places start contents) contents.cells
-  missing_is long e =
-      ap (λ f. kept_missing f kept) e ∙ ap (kept_missing (long_places start contents)) is
+  missing_is long e = ap (λ f. kept_missing f kept) e ∙ ap (kept_missing (long_places start contents)) is
       ∙ missing_bridge (long_places start contents) (start + 1) contents.cells
 
   pub twice_is : kept_twice [] kept ≡ twice_behind [] contents.cells
@@ -55,8 +54,7 @@ module _ (start : ℕ) (contents : Contents) (kept : List Kept) (is : kept ≡ k
 
   pub fixups_is : (long : List (Option ℕ)) → found long ≡ long_places start contents →
       kept_fixups (found long) 0 kept ≡ routine_fixups start contents
-  fixups_is long e =
-      ap (λ f. kept_fixups f 0 kept) e ∙ ap (kept_fixups (long_places start contents) 0) is
+  fixups_is long e = ap (λ f. kept_fixups f 0 kept) e ∙ ap (kept_fixups (long_places start contents) 0) is
       ∙ fixups_bridge (long_places start contents) 0 (start + 1) (start + 1) contents.cells (omega arith)
 
   pub order_is : (bytes front : List ℕ) → start ≡ length front → bytes ≡ front ++ contents.locals ∷ long_bytes contents.cells →

@@ -88,11 +88,9 @@ stands_more old new bytes new_bytes front contents cells is_final stands grew st
     omega (arith, ap length stands.bytes, length-append front (contents.locals ∷ long)) in
     record {
       start = start ∙ stands.start;
-      bytes =
-          grew.bytes ∙ ap (λ xs. xs ++ long_bytes cells) stands.bytes ∙ append_assoc front (contents.locals ∷ long) (long_bytes cells)
+      bytes = grew.bytes ∙ ap (λ xs. xs ++ long_bytes cells) stands.bytes ∙ append_assoc front (contents.locals ∷ long) (long_bytes cells)
           ∙ ap (λ xs. front ++ contents.locals ∷ xs) (sym (long-append contents.cells cells));
-      kept =
-          grew.kept ∙ ap (λ ks. ks ++ kept_from (length bytes) cells) stands.kept
+      kept = grew.kept ∙ ap (λ ks. ks ++ kept_from (length bytes) cells) stands.kept
           ∙ ap (λ k. kept_from (length front + 1) contents.cells ++ kept_from k cells) place
           ∙ sym (kept-append (length front + 1) contents.cells cells);
       labels = omega (arith, labels, stands.labels, labels-append contents.cells cells);
@@ -109,17 +107,15 @@ kept_length p q ((Of what) ∷ cells) = omega (arith, kept_length (p + special_s
 -- the place of a moment lies within
 pub back_within : (state : State) (bytes front : List ℕ) (now earlier : Contents) (at : Moment) → Stands state bytes front now →
     Were earlier at now → state.start + at.len ≤ length bytes
-back_within state bytes front now earlier at stands were =
-    omega (
-      arith,
-      stands.start,
-      ap length stands.bytes,
-      length-append front (now.locals ∷ long_bytes now.cells),
-      ap (λ (m : Moment). m.len)
-          were.moment,
-      ap (λ cs. length (long_bytes cs)) were.cells,
-      length-long earlier.cells were.added,
-    )
+back_within state bytes front now earlier at stands were = omega (
+  arith,
+  stands.start,
+  ap length stands.bytes,
+  length-append front (now.locals ∷ long_bytes now.cells),
+  ap (λ (m : Moment). m.len) were.moment,
+  ap (λ cs. length (long_bytes cs)) were.cells,
+  length-long earlier.cells were.added,
+)
 
 -- the items of a moment are kept where the rest is cut off
 pub back_stands : (state new : State) (bytes new_bytes front : List ℕ) (now earlier : Contents) (at : Moment) (place end : ℕ) →
@@ -144,8 +140,7 @@ back_stands state new bytes new_bytes front now earlier at place end stands were
     kept_length p 0 earlier.cells ∙ sym (ap (λ (m : Moment). m.kept) were.moment) in
     record {
       start = start ∙ stands.start;
-      bytes =
-          cut ∙ ap (λ xs. take place xs ++ drop (place + (end - place)) bytes) all
+      bytes = cut ∙ ap (λ xs. take place xs ++ drop (place + (end - place)) bytes) all
           ∙ ap (λ xs. xs ++ drop (place + (end - place)) bytes) (take_at head (long_bytes were.added) place first)
           ∙ ap (λ xs. head ++ xs) (drop_all (place + (end - place)) bytes (omega (arith, end_is))) ∙ append-nil head;
       kept = kept ∙ ap (take at.kept) kept_all ∙ take_at (kept_from p earlier.cells) (kept_from (p + length long) were.added) at.kept count;

@@ -10,15 +10,18 @@ use Rattle.inf_assembler.specs.Places.{marks, fixup_at}
 use Rattle.inf_assembler.specs.Closing.{AreInOrder, nowhere, special_saving, kept_place, kept_again, kept_twice, placed_bytes, with_bytes}
 use Rattle.inf_assembler.specs.Closing.{squeezed, saving, kept_fixups}
 
--- the first entry, and those behind it
-pub order_step : (from i end : ℕ) (kept : List Kept) (d : Kept) → i < length kept → AreInOrder from (drop i kept) end
-    → (from ≤ (get_or kept i d).place) × AreInOrder ((get_or kept i d).place + special_size (get_or kept i d).what) (drop (i + 1) kept) end
-order_step from i end kept d within order =
-    let P : List Kept → Type 0 = λ ks. AreInOrder from ks end in subst P (drop_more kept i d within) order
-
-pub order_end : (from end : ℕ) (kept : List Kept) → AreInOrder from kept end → from ≤ end
+order_end : (from end : ℕ) (kept : List Kept) → AreInOrder from kept end → from ≤ end
 order_end from end [] order = order
 order_end from end (entry ∷ others) order = omega (arith, order.0, order_end (entry.place + special_size entry.what) end others order.1)
+
+-- the first entry, those behind it, and its end
+pub order_step : (from i end : ℕ) (kept : List Kept) (d : Kept) → i < length kept → AreInOrder from (drop i kept) end
+    → (from ≤ (get_or kept i d).place) × AreInOrder ((get_or kept i d).place + special_size (get_or kept i d).what) (drop (i + 1) kept) end
+    × ((get_or kept i d).place + special_size (get_or kept i d).what ≤ end)
+order_step from i end kept d within order =
+    let P : List Kept → Type 0 = λ ks. AreInOrder from ks end in
+    let step = subst P (drop_more kept i d within) order in
+    (step.0, step.1, order_end ((get_or kept i d).place + special_size (get_or kept i d).what) end (drop (i + 1) kept) step.1)
 
 -- a function of a value that may be none gives a value only for a value
 pub some_of : {A B : Type 0} (f : A → B) (x : Option A) (y : B) → with_some f x ≡ Some y → (a : A) × (f a ≡ y)
@@ -112,8 +115,7 @@ marks_other n (Special.Refers target) other = refl
 
 pub twice_step : (i : ℕ) (kept : List Kept) (d : Kept) → i < length kept → kept_again (take i kept) (get_or kept i d).what ≡ None →
     kept_twice (take (i + 1) kept) (drop (i + 1) kept) ≡ kept_twice (take i kept) (drop i kept)
-twice_step i kept d within new =
-    ap (λ ks. kept_twice ks (drop (i + 1) kept)) (take_more kept i d within)
+twice_step i kept d within new = ap (λ ks. kept_twice ks (drop (i + 1) kept)) (take_more kept i d within)
     ∙ ap (λ o. first_of o (kept_twice (take i kept ++ get_or kept i d ∷ []) (drop (i + 1) kept))) (sym new)
     ∙ ap (kept_twice (take i kept)) (sym (drop_more kept i d within))
 

@@ -1,7 +1,7 @@
 -- Bytes that are moved together.
 use Rattle.std.proofs.Common.{◌≡◌, ℕ, ◌+◌, ◌-◌, ◌<◌, ◌≤◌, List, [], ◌∷◌, ◌++◌, length, get_or, take, drop, set, sym, ◌∙◌, ap, arith}
 use Rattle.std.proofs.Common.{append_assoc, append-nil, length-append, length-take, length-drop, take-append-drop}
-use Rattle.std.proofs.lemmas.List.{take_more, drop_more, drop_all, drop_at, drop-drop, take_at, take_all, take-append-le, take-take}
+use Rattle.std.proofs.lemmas.List.{take_more, drop_more, drop_at, drop-drop, take_at, take-append-le, take-take}
 use Rattle.std.proofs.lemmas.List.{set-append_right}
 use Rattle.inf_area.specs.Moves.{moved}
 use Rattle.inf_assembler.specs.Closing.{placed_bytes}
@@ -32,8 +32,7 @@ length-front to from n xs before within =
 
 -- nothing is written yet
 pub written_none : (start i : ℕ) (added xs : List ℕ) → i ≡ 0 → xs ≡ take start xs ++ take i added ++ drop (start + i) xs
-written_none start i added xs none =
-    sym (take-append-drop start xs) ∙ ap (λ k. take start xs ++ drop k xs) (omega arith)
+written_none start i added xs none = sym (take-append-drop start xs) ∙ ap (λ k. take start xs ++ drop k xs) (omega arith)
     ∙ ap (λ zs. zs ++ drop (start + 0) xs) (sym (append-nil (take start xs)))
     ∙ ap (λ k. take start xs ++ take k added ++ drop (start + k) xs) (sym none)
 
@@ -56,8 +55,7 @@ module _ (to from n : ℕ) (added xs : List ℕ) (before : to ≤ from) (within 
     length-placed_front = omega (arith, length-front to from n xs before within, length-append (take to xs ++ take n (drop from xs)) added)
 
     pub length-placed : length (placed_bytes to from n added xs) ≡ length xs
-    length-placed =
-        length-append (take to xs ++ take n (drop from xs) ++ added) (drop (to + n + length added) xs)
+    length-placed = length-append (take to xs ++ take n (drop from xs) ++ added) (drop (to + n + length added) xs)
         ∙ omega (arith, length-placed_front, length-drop (to + n + length added) xs)
 
     -- the bytes before the place stay
@@ -86,21 +84,6 @@ module _ (to from n : ℕ) (added xs : List ℕ) (before : to ≤ from) (within 
         ∙ ap (drop more) (drop_at (take to xs ++ take n (drop from xs) ++ added) (drop here xs) here length-placed_front)
         ∙ drop-drop more here xs ∙ ap (λ k. drop k xs) sum
 
--- the rest is moved, and the end is cut off
-pub cut_rest : (to from n gap : ℕ) (xs : List ℕ) → to ≤ from → from + n ≡ length xs → to + gap ≡ from →
-    take (to + n) (placed_bytes to from n [] xs) ++ drop (to + n + gap) (placed_bytes to from n [] xs) ≡ take to xs ++ drop from xs
-cut_rest to from n gap xs before whole is =
-    let placed = placed_bytes to from n [] xs in
-    let front : take (to + n) placed ≡ take to xs ++ drop from xs =
-    ap (λ k. take k placed) (omega arith) ∙ take-placed_all to from n [] xs before (omega arith) (omega arith)
-    ∙ append-nil (take to xs ++ take n (drop from xs))
-    ∙ ap (λ zs. take to xs ++ zs) (take_all n (drop from xs) (omega (arith, length-drop from xs))) in
-    ap (λ zs. zs ++ drop (to + n + gap) placed) front
-    ∙ ap (λ zs. (take to xs ++ drop from xs) ++ zs)
-    (drop_all (to + n + gap) placed (omega (arith, length-placed to from n [] xs before (omega arith) (omega arith))))
-    ∙ append-nil (take to xs ++ drop from xs)
-
 pub length-moved : (to from n : ℕ) (xs : List ℕ) → to ≤ from → from + n ≤ length xs → length (moved to from n xs) ≡ length xs
-length-moved to from n xs before within =
-    length-append (take to xs ++ take n (drop from xs)) (drop (to + n) xs)
+length-moved to from n xs before within = length-append (take to xs ++ take n (drop from xs)) (drop (to + n) xs)
     ∙ omega (arith, length-front to from n xs before within, length-drop (to + n) xs)

@@ -67,8 +67,7 @@ instruction_read long places old new total parts bytes rest proper clear e is_to
     (sym t.is_back ∙ closed-plain long places (old + long_size (front_cells parts)) (new + length t.front) parts.text) in
     let store_is : s.back ≡ stored = some_same s.back stored
     (sym s.is_back ∙ closed-store long places (old + long_size (plain head ++ cells)) (new + length s.front) parts.store) in
-    let all : bytes ≡ (((head ++ o.back) ++ stored) ++ b.back) ++ parts.text =
-    t.whole
+    let all : bytes ≡ (((head ++ o.back) ++ stored) ++ b.back) ++ parts.text = t.whole
     ∙ ap (λ x. x ++ t.back)
     (b.whole ∙ ap (λ x. x ++ b.back) (s.whole ∙ ap (λ x. x ++ s.back) (o.whole ∙ ap (λ x. x ++ o.back) head_is) ∙ ap
     (λ x. (head ++ o.back) ++ x) store_is))
@@ -244,8 +243,7 @@ module _ (all : List Cell) (start : ℕ) where
       all ≡ before ++ ((before_branch parts ++ Of (Special.Branches (record { sense = sense; target = target })) ∷ []) ++ back)
       → Clear long places (old_at before + long_size (before_branch parts))
       (new_at before + cells_size long (old_at before) (before_branch parts)) target
-  clear_target before back parts sense (Destination.To label) is =
-      λ offset e.
+  clear_target before back parts sense (Destination.To label) is = λ offset e.
       let known = clear_by before back parts (record { sense = sense; target = Destination.To label }) label.number is
       (is_near (old_at before + long_size (before_branch parts)) (long label.number)) refl refl (places label.number) refl offset e in
       record { large = known.0; small = known.1 }
@@ -275,8 +273,7 @@ module _ (all : List Cell) (start : ℕ) where
       let old : old_at before + long_size mark ≡ old_at (before ++ mark) = omega (arith, long_size-append before mark) in
       let new : new_at before + length s.front ≡ new_at (before ++ mark) =
       omega (arith, cells_size-append long start before mark, ap length none) in
-      let closed =
-      ap (λ n. closed_bytes long places n (new_at (before ++ mark)) (items_cells items)) (sym old)
+      let closed = ap (λ n. closed_bytes long places n (new_at (before ++ mark)) (items_cells items)) (sym old)
       ∙ ap (λ n. closed_bytes long places (old_at before + long_size mark) n (items_cells items)) (sym new) ∙ s.is_back in
       ap (λ b. instructions_at total (length (instructions items)) (b ++ rest)) same
       ∙ items_read (before ++ mark) items total s.back rest (is ∙ sym (append_assoc before mark (items_cells items))) proper closed
@@ -290,8 +287,7 @@ module _ (all : List Cell) (start : ℕ) where
       let old : old_at before + long_size cells ≡ old_at (before ++ cells) = omega (arith, long_size-append before cells) in
       let new : new_at before + length s.front ≡ new_at (before ++ cells) =
       omega (arith, cells_size-append long start before cells, s.size) in
-      let closed =
-      ap (λ n. closed_bytes long places n (new_at (before ++ cells)) (items_cells items)) (sym old)
+      let closed = ap (λ n. closed_bytes long places n (new_at (before ++ cells)) (items_cells items)) (sym old)
       ∙ ap (λ n. closed_bytes long places (old_at before + long_size cells) n (items_cells items)) (sym new) ∙ s.is_back in
       let clear = clear_option before (plain parts.text ++ items_cells items) parts parts.branch
       (is ∙ ap (λ x. before ++ x) (append_assoc (front_cells parts) (plain parts.text) (items_cells items))) in
@@ -313,8 +309,7 @@ pub routine_read : (place : ℕ) (items : List Item) (bytes rest : List ℕ) →
     (items_cells items) ≡ Some bytes
     → instructions_at (place + 1 + length bytes + length rest) (length (instructions items)) (bytes ++ rest)
     ≡ Some (
-      map (seen (place_from (long_place (place + 1) (items_cells items)) (place + 1) (place + 1) (items_cells items)))
-          (instructions items),
+      map (seen (place_from (long_place (place + 1) (items_cells items)) (place + 1) (place + 1) (items_cells items))) (instructions items),
       rest,
     )
 routine_read place items bytes rest proper e =

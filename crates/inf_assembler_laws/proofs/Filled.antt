@@ -71,13 +71,11 @@ module _ (number_of : Target → ℕ) (long places : Places) where
       let regroup : (xs : List ℕ) → front ++ ((here ++ xs) ++ rest) ≡ (front ++ here) ++ (xs ++ rest) = λ xs. simp append_assoc in
       record {
         numbered = here ++ next.numbered;
-        is =
-            ap (λ k. closed_bytes long places old new (k ++ known_cells number_of cells)) same
+        is = ap (λ k. closed_bytes long places old new (k ++ known_cells number_of cells)) same
             ∙ ap (λ o. joined o (closed_bytes long places (old + special_size what) (new + size_at long old what)
             (known_cells number_of cells))) is
             ∙ ap (joined (Some here)) next.is;
-        fills =
-            ap (λ hs. filled number_of (hs ++ fixups) (front ++ (bytes ++ rest))) none
+        fills = ap (λ hs. filled number_of (hs ++ fixups) (front ++ (bytes ++ rest))) none
             ∙ ap (λ b. filled number_of fixups (front ++ (b ++ rest))) whole
             ∙ ap (filled number_of fixups) (regroup back) ∙ next.fills ∙ sym (regroup next.numbered);
       }
@@ -95,8 +93,7 @@ module _ (number_of : Target → ℕ) (long places : Places) where
       record {
         numbered = byte ∷ next.numbered;
         is = ap (with_some (λ others. byte ∷ others)) next.is;
-        fills =
-            ap (λ b. filled number_of fixups (front ++ (b ++ rest))) made.2
+        fills = ap (λ b. filled number_of fixups (front ++ (b ++ rest))) made.2
             ∙ ap (filled number_of fixups) (sym (append_assoc front one (made.0 ++ rest))) ∙ next.fills
             ∙ append_assoc front one (next.numbered ++ rest);
       }
@@ -108,8 +105,7 @@ module _ (number_of : Target → ℕ) (long places : Places) where
       made.is_back)
   numbered old new ((Of (Special.Branches branch)) ∷ cells) front bytes rest at e =
       let size = size_at long old (Special.Branches branch) in
-      let made =
-      joined_of (closed_special long places old new (Special.Branches branch))
+      let made = joined_of (closed_special long places old new (Special.Branches branch))
       (closed_bytes long places (old + 2) (new + size) cells) bytes e in
       let here = closed_size long places old new (Special.Branches branch) made.front made.is_front in
       kept_before old new (Special.Branches branch) cells front made.front made.back bytes rest refl refl made.is_front made.whole
@@ -134,16 +130,14 @@ module _ (number_of : Target → ℕ) (long places : Places) where
       let new_two : new + 1 + 1 ≡ new + 2 = omega arith in
       record {
         numbered = word number ++ next.numbered;
-        is =
-            ap (λ n. with_some (λ others. (number / 256) ∷ others)
+        is = ap (λ n. with_some (λ others. (number / 256) ∷ others)
             (with_some (λ others. (number % 256) ∷ others) (closed_bytes long places n (new + 1 + 1) (known_cells number_of cells))))
             two
             ∙ ap (λ n. with_some (λ others. (number / 256) ∷ others)
             (with_some (λ others. (number % 256) ∷ others) (closed_bytes long places (old + 2) n (known_cells number_of cells))))
             new_two
             ∙ ap (λ o. with_some (λ others. (number / 256) ∷ others) (with_some (λ others. (number % 256) ∷ others) o)) next.is;
-        fills =
-            ap (λ b. filled number_of (fixup ∷ fixups) (front ++ (b ++ rest))) (made.whole ∙ ap (λ f. f ++ made.back) zeros)
+        fills = ap (λ b. filled number_of (fixup ∷ fixups) (front ++ (b ++ rest))) (made.whole ∙ ap (λ f. f ++ made.back) zeros)
             ∙ ap (λ n. filled number_of fixups (with_word (front ++ (0 ∷ 0 ∷ (made.back ++ rest))) n number)) at
             ∙ ap (filled number_of fixups) (with_word-seam front (made.back ++ rest) 0 0 number)
             ∙ ap (filled number_of fixups) (sym (append_assoc front (word number) (made.back ++ rest)))

@@ -42,8 +42,7 @@ pub branch_below : (end place offset : ℕ) → Near 8192 end place offset → o
 branch_below end place offset near = omega (arith, near.is)
 
 pub branch_place : (end place offset : ℕ) → Near 8192 end place offset → place_by 8192 end offset ≡ place
-branch_place end place offset near =
-    cond_is (ltb offset 8192) (end + offset - 2) (end + offset - 16386) place
+branch_place end place offset near = cond_is (ltb offset 8192) (end + offset - 2) (end + offset - 16386) place
     (λ e. let less = below_half offset 8192 e in omega (arith, near.is, near.low, near.high, less))
     (λ e. let more = from_half offset 8192 e in omega (arith, near.is, near.low, near.high, more))
 
@@ -51,8 +50,7 @@ pub jump_below : (end place offset : ℕ) → Near 32768 end place offset → of
 jump_below end place offset near = omega (arith, near.is)
 
 pub jump_place : (end place offset : ℕ) → Near 32768 end place offset → place_by 32768 end offset ≡ place
-jump_place end place offset near =
-    cond_is (ltb offset 32768) (end + offset - 2) (end + offset - 65538) place
+jump_place end place offset near = cond_is (ltb offset 32768) (end + offset - 2) (end + offset - 65538) place
     (λ e. let less = below_half offset 32768 e in omega (arith, near.is, near.low, near.high, less))
     (λ e. let more = from_half offset 32768 e in omega (arith, near.is, near.low, near.high, more))
 

@@ -60,8 +60,7 @@ split long places old new ((Plain byte) ∷ xs) ys bytes e =
       front = byte ∷ s.front;
       back = s.back;
       is_front = ap (with_some (λ rest. byte ∷ rest)) s.is_front;
-      is_back =
-          ap (λ n. closed_bytes long places n (new + length (byte ∷ s.front)) ys) f
+      is_back = ap (λ n. closed_bytes long places n (new + length (byte ∷ s.front)) ys) f
           ∙ ap (λ n. closed_bytes long places (old + 1 + long_size xs) n ys) g ∙ s.is_back;
       whole = made.2 ∙ ap (λ rest. byte ∷ rest) s.whole;
       size = omega (arith, s.size);
@@ -78,11 +77,9 @@ split long places old new ((Of what) ∷ xs) ys bytes e =
     record {
       front = made.front ++ s.front;
       back = s.back;
-      is_front =
-          ap (λ o. joined o (closed_bytes long places next (new + size_at long old what) xs)) made.is_front
+      is_front = ap (λ o. joined o (closed_bytes long places next (new + size_at long old what) xs)) made.is_front
           ∙ ap (joined (Some made.front)) s.is_front;
-      is_back =
-          ap (λ n. closed_bytes long places n (new + length (made.front ++ s.front)) ys) f
+      is_back = ap (λ n. closed_bytes long places n (new + length (made.front ++ s.front)) ys) f
           ∙ ap (λ n. closed_bytes long places (next + long_size xs) n ys) g ∙ s.is_back;
       whole = made.whole ∙ ap (λ rest. made.front ++ rest) s.whole ∙ sym (append_assoc made.front s.front s.back);
       size = omega (arith, length-append made.front s.front, here, s.size);

@@ -225,19 +225,16 @@ module _ (long : Places) (start : ℕ) (front gap back : List Cell) (label place
         side = inl (f.to, f.long_to);
       }
   beside_by None is e =
-      let here =
-      place_split long start start front (gap ++ back) label
+      let here = place_split long start start front (gap ++ back) label
       ∙ ap (λ o. first_of o (place_from long middle new_middle (gap ++ back) label)) is in
-      let next =
-      place_split long middle new_middle gap back label
+      let next = place_split long middle new_middle gap back label
       ∙ ap (λ o. first_of o (place_from long behind new_behind back label)) (place_unmarked long middle new_middle gap label plain) in
       let f = found_in long behind new_behind back label place (sym next ∙ sym here ∙ e) in
       let none = none_of_later (place_from long start start front label) (long_place start front label)
       (no_later long start start front label (omega arith)) is in
       record {
         long = f.long;
-        is =
-            long_split start front (gap ++ back) label ∙ ap (λ o. first_of o (long_place middle (gap ++ back) label)) none
+        is = long_split start front (gap ++ back) label ∙ ap (λ o. first_of o (long_place middle (gap ++ back) label)) none
             ∙ long_split middle gap back label ∙ ap (λ o. first_of o (long_place behind back label)) (long_unmarked middle gap label plain)
             ∙ f.is;
         side = inr (f.from, f.long_from, f.near);

@@ -129,8 +129,7 @@ types_at-double true operands rest few =
     ∙ ap (λ xs. type_slot operands 0 ∷ type_slot operands 1 ∷ type_slot operands 2 ∷ type_slot operands 3 ∷ xs) (types_in-byte operands 4)
     ∙ eight_slots operands in
     ap (λ codes. Some (given_types codes, rest)) all ∙ ap (λ codes. Some (codes, rest)) (given_types-slots 8 operands few)
-types_at-double false operands rest few =
-    ap (λ codes. Some (given_types codes, rest)) (types_in-byte operands 0 ∙ four_slots operands)
+types_at-double false operands rest few = ap (λ codes. Some (given_types codes, rest)) (types_in-byte operands 0 ∙ four_slots operands)
     ∙ ap (λ codes. Some (codes, rest)) (given_types-slots 4 operands few)
 
 -- an opening whose types follow

@@ -97,8 +97,7 @@ taken_now : (rule : ℕ) (given : List Given) (tokens : List SourceToken) (r : R
 taken_now rule given tokens r e at = by_stack r.stack refl
   where
     by_stack : (stack : List (Symbol Action)) → r.stack ≡ stack → Now rule given r
-    by_stack [] empty =
-        Whole tokens e (ends rule tokens r at empty)
+    by_stack [] empty = Whole tokens e (ends rule tokens r at empty)
         (ap (λ m. record { mode = m; stack = r.stack }) at.reads ∙ ap (λ stack. record { mode = Recovery.Reads; stack = stack }) empty)
     by_stack (symbol ∷ symbols) some = Inside tokens e at (λ empty. let never : [] ≡ symbol ∷ symbols = sym empty ∙ some in cc)
 
@@ -106,8 +105,7 @@ taken_now rule given tokens r e at = by_stack r.stack refl
 wrong_now : (rule : ℕ) (given : List Given) (tokens : List SourceToken) (r now : Reading) (wrong : Given)
     → given ≡ map Kept tokens ++ wrong ∷ [] → At rule tokens r → IsBad rule tokens wrong
     → now ≡ between (passed (skip_of r.stack) (token_in wrong).kind) → Now rule given now
-wrong_now rule given tokens r now wrong e at is_bad same =
-    Skips tokens wrong [] e (begins rule tokens r at) is_bad
+wrong_now rule given tokens r now wrong e at is_bad same = Skips tokens wrong [] e (begins rule tokens r at) is_bad
     (same ∙ ap (λ b. between (passed (cond b Recovery.SkipsRoutine Recovery.SkipsDirective) (token_in wrong).kind))
     (outside r.stack at.is_quiet))
 

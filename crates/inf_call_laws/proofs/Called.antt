@@ -84,8 +84,7 @@ goes_on : {T : Type 0} (next : State → Answered T) (s : State) (is_over more :
     → and_then (and_then (s, if is_over then Err UnitFault.Fatal else Ok more) whole) (λ _. next)
     ≡ (if is_over then (s, Err UnitFault.Fatal) else next s)
 goes_on next s true more w = refl
-goes_on next s false more w =
-    ap (λ (held : Option ℕ). and_then (s, waiting held) (λ _. next)) w.1
+goes_on next s false more w = ap (λ (held : Option ℕ). and_then (s, waiting held) (λ _. next)) w.1
 
 expression_goes : (limits : Limits) (o : Choices) (u : Use) (value : Source) (s : State) → HasOne value (unheld s.work).unit
     → expression_ended limits o u s ≡ expression_by limits o u value s
@@ -112,8 +111,7 @@ expression_calls limits sources o n s h =
     let r = part limits sources o (suc n) b in
     record {
       one = one;
-      answers = λ u.
-          goes_on (expression_ended limits o u) r r.work.report.counts.is_over
+      answers = λ u. goes_on (expression_ended limits o u) r r.work.report.counts.is_over
           (nat_lt b.work.report.counts.errors r.work.report.counts.errors) (waits limits sources o alone_expression commas n s one)
           ∙ unless_same r (expression_ended limits o u r) (expression_by limits o u one.value r)
           (expression_goes limits o u one.value r (has_one limits sources o alone_expression commas n s one));
@@ -128,8 +126,7 @@ constant_calls limits sources o n s h =
     let r = part limits sources o (suc n) b in
     record {
       one = one;
-      answers =
-          goes_on (constant_ended limits o) r r.work.report.counts.is_over
+      answers = goes_on (constant_ended limits o) r r.work.report.counts.is_over
           (nat_lt b.work.report.counts.errors r.work.report.counts.errors) (waits limits sources o alone_constant assignments n s one)
           ∙ unless_same r (constant_ended limits o r) (value_by limits o one.value r)
           (constant_goes limits o one.value r (has_one limits sources o alone_constant assignments n s one));

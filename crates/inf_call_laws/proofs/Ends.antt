@@ -19,8 +19,7 @@ use Rattle.inf_call_laws.specs.Laid.{HasOne, constant_by, ended_by, finding_of, 
 
 found : (wanted : Wanted) (first : ℕ) (value : Source) (w : Compilation) → joins_commas wanted ≡ true → HasOne value w.unit
     → finding_at first wanted w ≡ finding_of wanted first (operands_of w) value
-found wanted first value w joins one =
-    ap (λ (symbols : List Symbol). judged wanted first (operands_of w) symbols) one.symbols
+found wanted first value w joins one = ap (λ (symbols : List Symbol). judged wanted first (operands_of w) symbols) one.symbols
     ∙ (symbols_come_to_their_tree wanted false first (operands_of w) one.level one.from one.leaf one.atoms value one.written joins).1
 
 grown : (wanted : Wanted) (first : ℕ) (operands : List Operand) (value : Source) (w : Compilation) → joins_commas wanted ≡ true

@@ -7,7 +7,7 @@ use Rattle.inf_scanner.specs.declared.{tokens.Mark.Mark, tokens.TokenKind.TokenK
 use Rattle.inf_machine.specs.{Grammar.IsOneOf, Grammar.IsText, Grammar.Row, declared.symbols.Symbol.Symbol}
 use Rattle.inf_machine.specs.Grammar.{Did, Event, Took, action, first, has, here, later, token}
 use Rattle.inf_syntax.specs.{Atoms.mark_atom, Rows.row, declared.actions.Action.Action}
-use Rattle.inf_syntax.specs.Parts.{ !begin, !hold, !outer, 'semicolon', assign, expression}
+use Rattle.inf_syntax.specs.declared.parts.names.TheConstants as Part
 use Rattle.inf_expressions.specs.Sources.{Source}
 use Rattle.inf_grammar.specs.Language.{grammar}
 use Rattle.inf_grammar.proofs.OpenStacks.{only_bit}
@@ -30,16 +30,16 @@ use Rattle.inf_call_laws.specs.Laid.{IsOne, Kind, kinds, text_read}
 -- Lemmas about the symbols of a text that a call reads
 
 abbrev behind_value : List (Symbol Action)
-behind_value = !hold ∷ 'semicolon' ∷ []
+behind_value = Part.DO_HOLD ∷ Part.SEMICOLON ∷ []
 
 abbrev alone_row : Symbol Action → Row Action
-alone_row value = row (!begin ∷ !outer ∷ value ∷ behind_value)
+alone_row value = row (Part.DO_BEGIN ∷ Part.DO_OUTER ∷ value ∷ behind_value)
 
-expression_rows : grammar.rows_of alone_expression ≡ alone_row expression ∷ []
+expression_rows : grammar.rows_of alone_expression ≡ alone_row Part.EXPRESSION ∷ []
 unfolding grammar
 expression_rows = refl
 
-constant_rows : grammar.rows_of alone_constant ≡ alone_row assign ∷ []
+constant_rows : grammar.rows_of alone_constant ≡ alone_row Part.ASSIGN ∷ []
 unfolding grammar
 constant_rows = refl
 
@@ -71,7 +71,7 @@ record Inner (value : Symbol Action) (atoms : List ℕ) (events : List (Event Ac
   pub is_semicolon : has (grammar.atoms_of 0) atom ≡ true
 
 inner : (value : Symbol Action) (atoms : List ℕ) (events : List (Event Action))
-    → IsText grammar (!begin ∷ !outer ∷ value ∷ behind_value) atoms events → Inner value atoms events
+    → IsText grammar (Part.DO_BEGIN ∷ Part.DO_OUTER ∷ value ∷ behind_value) atoms events → Inner value atoms events
 inner value atoms events (action (action leads)) =
     let parts = split leads refl (value ∷ []) behind_value refl in
     let end = held parts.rest parts.late parts.of_rest in
@@ -81,8 +81,7 @@ inner value atoms events (action (action leads)) =
       atom = end.atom;
       of_front = parts.of_front;
       atoms_are = parts.atoms_are ∙ ap (λ rest. parts.front ++ rest) end.one;
-      events_are =
-          ap (λ es. Did Action.Begin ∷ Did Action.Outer ∷ es) (parts.events_are ∙ ap (λ late. parts.early ++ late) end.are);
+      events_are = ap (λ es. Did Action.Begin ∷ Did Action.Outer ∷ es) (parts.events_are ∙ ap (λ late. parts.early ++ late) end.are);
       is_semicolon = end.is_semicolon;
     }
 
@@ -91,8 +90,7 @@ inner value atoms events (action (action leads)) =
 of_before : (early : List (Event Action)) (atom : ℕ) (tokens : List Seen) (last : Seen) → TakeAll early tokens
     → happenings_of (early ++ late_events atom) (tokens ++ last ∷ [])
     ≡ happenings_before last.token.place (early ++ late_events atom) (tokens ++ last ∷ [])
-of_before early atom tokens last all =
-    happenings-append early (late_events atom) tokens last [] all
+of_before early atom tokens last all = happenings-append early (late_events atom) tokens last [] all
     ∙ sym (before-append last.token.place early (late_events atom) tokens (last ∷ []) all)
 
 -- A semicolon behind an expression is taken, and nothing is reported of it.
@@ -130,7 +128,8 @@ Steps value = (atoms : List ℕ) (events : List (Event Action)) → IsText gramm
 
 one_read : (limits : Limits) (context : Context) (value : Symbol Action) (level : ℕ) → IsOneOf (form_of (value ∷ []) level) forms
     → Steps value → (seen : List Seen) (events : List (Event Action))
-    → IsText grammar (!begin ∷ !outer ∷ value ∷ behind_value) (atoms_of seen) events → AreSeen (atoms_of seen) (tokens_of seen)
+    → IsText grammar (Part.DO_BEGIN ∷ Part.DO_OUTER ∷ value ∷
+    behind_value) (atoms_of seen) events → AreSeen (atoms_of seen) (tokens_of seen)
     → length seen < 4294967295 → (w : Compilation) → IsOne limits context level events seen w
 one_read limits context value level form steps seen events text are few w =
     let i = inner value (atoms_of seen) events text in
@@ -143,8 +142,7 @@ one_read limits context value level form steps seen events text are few w =
     subst (λ (x : List ℕ). IsText grammar (value ∷ []) x i.early) (sym l.atoms) i.of_front in
     let take_all : TakeAll i.early tokens = texts_take_all of_tokens tokens refl in
     let last_is : last.atom ≡ i.atom = last_atom tokens last i.front i.atom l.atoms (ap atoms_of l.same ∙ i.atoms_are) in
-    let semicolon : last.token.kind ≡ TokenKind.Mark Mark.Semicolon =
-    last_seen tokens last all_seen Mark.Semicolon
+    let semicolon : last.token.kind ≡ TokenKind.Mark Mark.Semicolon = last_seen tokens last all_seen Mark.Semicolon
     (last_is ∙ only_bit (mark_atom Mark.Semicolon) i.atom (sym (ap (λ set. has set i.atom) semicolon_class) ∙ i.is_semicolon)) in
     let v : Compilation = next_comes w in
     let u : UnitAtHand = begun w.unit in
@@ -169,8 +167,7 @@ one_read limits context value level form steps seen events text are few w =
       is_semicolon = semicolon;
       value = e.0;
       written = e.1;
-      does =
-          ap (λ (es : List (Event Action)). run limits context (happenings_of es seen) v) i.events_are
+      does = ap (λ (es : List (Event Action)). run limits context (happenings_of es seen) v) i.events_are
           ∙ (ap (λ (all : List Seen). run limits context
           (happenings_of (Did Action.Begin ∷ Did Action.Outer ∷ (i.early ++ late)) all) v) (sym l.same)
           ∙ (ap (λ hs. run limits context hs v)
@@ -183,25 +180,27 @@ one_read limits context value level form steps seen events text are few w =
 
 -- Lemmas about the rules
 
-expression_steps : Steps expression
+expression_steps : Steps Part.EXPRESSION
 expression_steps atoms events text = (expression_form atoms events text).steps
 
-assign_only : Steps assign
+assign_only : Steps Part.ASSIGN
 assign_only atoms events text = only_steps text assign_steps
 
 expression_read : (limits : Limits) (context : Context) (seen : List Seen) (events : List (Event Action))
     → IsText grammar (Symbol.Rule alone_expression ∷ []) (atoms_of seen) events → AreSeen (atoms_of seen) (tokens_of seen)
     → length seen < 4294967295 → (w : Compilation) → IsOne limits context commas events seen w
 expression_read limits context seen events text are few w =
-    of_rows (IsOne limits context commas events seen w) alone_expression (alone_row expression ∷ []) (atoms_of seen) events expression_rows
-    ((λ t. one_read limits context expression commas first expression_steps seen events t are few w), tt) text
+    of_rows (IsOne limits context commas events seen w) alone_expression (alone_row Part.EXPRESSION ∷
+    []) (atoms_of seen) events expression_rows
+    ((λ t. one_read limits context Part.EXPRESSION commas first expression_steps seen events t are few w), tt) text
 
 constant_read : (limits : Limits) (context : Context) (seen : List Seen) (events : List (Event Action))
     → IsText grammar (Symbol.Rule alone_constant ∷ []) (atoms_of seen) events → AreSeen (atoms_of seen) (tokens_of seen)
     → length seen < 4294967295 → (w : Compilation) → IsOne limits context assignments events seen w
 constant_read limits context seen events text are few w =
-    of_rows (IsOne limits context assignments events seen w) alone_constant (alone_row assign ∷ []) (atoms_of seen) events constant_rows
-    ((λ t. one_read limits context assign assignments (later first) assign_only seen events t are few w), tt) text
+    of_rows (IsOne limits context assignments events seen w) alone_constant (alone_row Part.ASSIGN ∷
+    []) (atoms_of seen) events constant_rows
+    ((λ t. one_read limits context Part.ASSIGN assignments (later first) assign_only seen events t are few w), tt) text
 
 of_two : (P : Kind → Type 0) (a b kind : Kind) → P a → P b → IsOneOf kind (a ∷ b ∷ []) → P kind
 of_two P a b kind x y first = x

@@ -21,8 +21,7 @@ use Rattle.inf_call_laws.specs.Texts.{AllGoOn, GoesOn, IsPlain, alone_stepped, a
 -- Lemmas about one turn
 
 answered_nothing : (sources : Sources) (o : Choices) (s : State) → IsPlain s → answered s.work.asked sources o (asked_nothing s) ≡ s
-answered_nothing sources o s plain =
-    ap (λ (a : Request). answered a sources o (asked_nothing s)) plain.asks_nothing
+answered_nothing sources o s plain = ap (λ (a : Request). answered a sources o (asked_nothing s)) plain.asks_nothing
     ∙ ap (λ (a : Request). record s { work = record s.work { asked = a } }) (sym plain.asks_nothing)
 
 carried_plainly : (sources : Sources) (o : Choices) (s : State) → IsPlain s → carried_out sources o s ≡ s
@@ -43,8 +42,7 @@ rested_work r s =
 
 turned_work : (limits : Limits) (sources : Sources) (o : Choices) (r : Reported) (s : State) → IsPlain (stepped limits o s)
     → reporting r (silent_turn limits sources o s) ≡ reporting r (stepped limits o s)
-turned_work limits sources o r s plain =
-    ap (λ (x : State). reporting r (rested x)) (carried_plainly sources o (stepped limits o s) plain)
+turned_work limits sources o r s plain = ap (λ (x : State). reporting r (rested x)) (carried_plainly sources o (stepped limits o s) plain)
     ∙ rested_work r (stepped limits o s)
 
 -- Lemmas about a turn behind which the text goes on
@@ -68,22 +66,18 @@ turned_on limits sources o s on =
     ∙ (ap (λ b. if has_ended x then x else if b then piece_closed x else x) (not_resting x on) ∙ either_state (has_ended x) x)
 
 not_ended : (s : State) → GoesOn s → s.is_over ≡ false → has_ended s ≡ false
-not_ended s on over =
-    ap (λ b. b || has_ended_at (stand_of s)) over
+not_ended s on over = ap (λ b. b || has_ended_at (stand_of s)) over
     ∙ (ap (λ b. b || is_mode_ended s.reading.mode) on.is_plain.is_not_over ∙ on.is_plain.has_more)
 
 not_parted : (s : State) → GoesOn s → s.is_over ≡ false → is_parted s ≡ false
-not_parted s on over =
-    ap (λ b. b || ((reads s.reading.mode && is_empty s.reading.stack) && may_part s.conditions)) (not_ended s on over)
+not_parted s on over = ap (λ b. b || ((reads s.reading.mode && is_empty s.reading.stack) && may_part s.conditions)) (not_ended s on over)
     ∙ not_between (reads s.reading.mode) (is_empty s.reading.stack) (may_part s.conditions) on.is_inside
 
 -- Turns that write lead where turns lead that do not.
 
 turns_alike : (limits : Limits) (sources : Sources) (o : Choices) (t s : State) → unwritten t ≡ unwritten s
     → unwritten (turn limits sources o t) ≡ unwritten (silent_turn limits sources o s)
-turns_alike limits sources o t s same =
-    one_turn limits sources o t
-    ∙ (ap (silent_turn limits sources o) same
+turns_alike limits sources o t s same = one_turn limits sources o t ∙ (ap (silent_turn limits sources o) same
     ∙ (sym (one_turn limits sources o s) ∙ written_is_silent (silent_turn limits sources o s)))
 
 last_turn : (limits : Limits) (sources : Sources) (o : Choices) (t : State) → has_ended t ≡ false
@@ -113,8 +107,7 @@ part_by limits sources o (suc n) t s r same going unended on plain =
     let next = silent_turn limits sources o s in
     let alike = turns_alike limits sources o t s same in
     let stays : next ≡ x = turned_on limits sources o s on.0 in
-    let parted : is_parted (turn limits sources o t) ≡ false =
-    ap is_parted alike ∙ (ap is_parted stays ∙ not_parted x on.0 unended) in
+    let parted : is_parted (turn limits sources o t) ≡ false = ap is_parted alike ∙ (ap is_parted stays ∙ not_parted x on.0 unended) in
     ap (reporting r) (more_turns limits sources o (suc n) t (ap has_ended same ∙ going) parted)
     ∙ part_by limits sources o n (turn limits sources o t) next r alike (ap has_ended stays ∙ not_ended x on.0 unended)
     (ap (λ (y : State). y.is_over) stays ∙ unended) on.1 plain

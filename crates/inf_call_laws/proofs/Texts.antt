@@ -114,8 +114,4 @@ turns_act limits rule is sources o n s events fresh on kept text =
     (ap (λ (r : Reading). record r { stack = Symbol.Rule rule ∷ r.stack }) fresh) kept text
 
 pub texts_are_read_alone : (limits : Limits) → TextsAreReadAlone limits
-texts_are_read_alone limits = record {
-  texts = texts_act limits;
-  turns = turns_act limits;
-  parts = parts_leave_work limits;
-}
+texts_are_read_alone limits = record { texts = texts_act limits; turns = turns_act limits; parts = parts_leave_work limits }

@@ -38,8 +38,7 @@ pub call_then : {S T : Type 0} (call : State → Answered S) (next : S → State
 call_then call next was mid now v answer old between new a b = record {
   lines = a.lines ++ b.lines;
   takes = takes_then old between new a.lines b.lines a.takes b.takes;
-  same = λ told.
-      ap (λ t. (now t, answer)) (sym (append_assoc told a.lines b.lines)) ∙ b.same (told ++ a.lines) ∙ ap (λ x. and_then x next)
+  same = λ told. ap (λ t. (now t, answer)) (sym (append_assoc told a.lines b.lines)) ∙ b.same (told ++ a.lines) ∙ ap (λ x. and_then x next)
       (a.same told);
 }
 
@@ -56,8 +55,7 @@ pub cut_then : {S T : Type 0} (call : State → Answered S) (next : S → State 
 cut_then {S = S} call next was mid v old between new a b = record {
   front = a.lines ++ b.front;
   takes = takes_then old between new a.lines b.front a.takes b.takes;
-  begins = λ told.
-      subst (λ front. IsFront front (and_then (call (was told)) next).0.told) (append_assoc told a.lines b.front)
+  begins = λ told. subst (λ front. IsFront front (and_then (call (was told)) next).0.told) (append_assoc told a.lines b.front)
       (subst (λ (x : Answered S). IsFront ((told ++ a.lines) ++ b.front) (and_then x next).0.told) (a.same told) (b.begins (told ++
       a.lines)));
 }

@@ -6,8 +6,7 @@ use Rattle.inf_code.specs.Code.{Routines, place_behind}
 use Rattle.inf_calls.specs.{Calls.added, declared.cx.Closed.Closed}
 
 -- whether code has begun is seen by the place of its next routine
-pub begun : (b : Bool) (size refs : ℕ) → nat_eq ((if b then 8 else 0) + size) (8 + size) ≡ true → (if b then 5 else 4) + refs - 1 ≡ 4 +
-    refs
+pub begun : (b : Bool) (size refs : ℕ) → nat_eq ((if b then 8 else 0) + size) (8 + size) ≡ true → (if b then 5 else 4) + refs - 1 ≡ 4 + refs
 begun true size refs h = omega arith
 begun false size refs h = let never : 0 + size ≡ 8 + size = eqb-true (0 + size) (8 + size) h in omega (arith, never)
 

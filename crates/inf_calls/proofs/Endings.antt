@@ -21,15 +21,13 @@ keeps : {T : Type 0} (answer : Result T UnitFault) (s : State) → (and_then (te
 keeps answer s = keeps_by answer (told_out s) s.work.report.counts.is_over
 
 module _ {E T : Type 0} (carry : State → State × E) (answer : E → Result T UnitFault) where
-  pub carried_calls : (e : E) (was mid now : List ℕ → State) (v : Result ⊤ UnitFault) (r : Result T UnitFault) (old new : Option (List
-      ℕ)) →
+  pub carried_calls : (e : E) (was mid now : List ℕ → State) (v : Result ⊤ UnitFault) (r : Result T UnitFault) (old new : Option (List ℕ)) →
       ((s : State) → (s, r) ≡ then_by (answering (answer e)) s v) → ((told : List ℕ) → (mid told, e) ≡ carry (was told))
       → Calls tell mid now v old new → Calls (λ s. let c = carry s in and_then (tell c.0) (answering (answer c.1))) was now r old new
   carried_calls e was mid now v r old new h carried c = record {
     lines = c.lines;
     takes = c.takes;
-    same = λ told.
-        h (now (told ++ c.lines)) ∙ ap (λ (x : Answered ⊤). and_then x (answering (answer e))) (c.same told)
+    same = λ told. h (now (told ++ c.lines)) ∙ ap (λ (x : Answered ⊤). and_then x (answering (answer e))) (c.same told)
         ∙ ap (λ (x : State × E). and_then (tell x.0) (answering (answer x.1))) (carried told);
   }
 

@@ -114,8 +114,7 @@ module _ {R M B : Type 0} (f : Files R) (m : Sink M) (limits : Limits) (was is :
       let c = call (f.sources was) (chosen before.setup) x.0 in (
         x.0,
         (
-          call_failed c next (state (f.sources was) start (f.openings was) before) (state (f.sources was) start (f.openings is) after)
-              fault
+          call_failed c next (state (f.sources was) start (f.openings was) before) (state (f.sources was) start (f.openings is) after) fault
               (m.taken old) (m.taken new) x.1.0,
           x.1.1,
         ),
@@ -192,8 +191,7 @@ module _ {R M B : Type 0} (f : Files R) (m : Sink M) (limits : Limits) (was is :
         ),
       )
 
-  pub reads_answers : {T : Type 0} (begin : State → State) (call : Sources → Choices → ℕ → State → Answered T) (answer : Result T
-      UnitFault)
+  pub reads_answers : {T : Type 0} (begin : State → State) (call : Sources → Choices → ℕ → State → Answered T) (answer : Result T UnitFault)
       → Reads f m limits begin call was is old new before after answer → Answers f m call was is old new before after answer
   reads_answers begin call answer r = λ going honest start nested kept.
       let x = r going honest start nested kept in (x.0, x.1.0)
@@ -273,10 +271,7 @@ module _ {R M B : Type 0} (f : Files R) (m : Sink M) (limits : Limits) (was is :
         cut = record {
           front = [];
           takes = subst (λ (taken : Option (List ℕ)). Takes (m.taken old) taken []) (sym quiet) (takes_none (m.taken old));
-          begins = λ told. record {
-            rest = [];
-            is_cut = told_same _ ∙ sym (append-nil told) ∙ sym (append-nil (told ++ []));
-          };
+          begins = λ told. record { rest = []; is_cut = told_same _ ∙ sym (append-nil told) ∙ sym (append-nil (told ++ [])) };
         };
         others = zero;
         opened = λ told. ap (λ r. opened_since start (f.openings r)) same ∙ ap (λ n. n.openings) (sym (nesting_same _));
@@ -295,8 +290,7 @@ done_if (Err fault) P p = p
 
 module _ {R M B : Type 0} (f : Files R) (m : Sink M) (limits : Limits) (was is : R) (old new : M) (before after : Session B)
     (answer : Result (Option Simple) UnitFault) (result : Result ⊤ UnitFault) (is_done : result ≡ done answer) where
-  done_answers : (call : Sources → Choices → ℕ → State → Answered (Option Simple))
-      → Answers f m call was is old new before after answer
+  done_answers : (call : Sources → Choices → ℕ → State → Answered (Option Simple)) → Answers f m call was is old new before after answer
       → Answers f m (λ sources o turns s. ((call sources o turns s).0, done (call sources o turns s).1)) was is old new before after
       result
   done_answers call r = λ going honest start nested kept.
@@ -305,8 +299,7 @@ module _ {R M B : Type 0} (f : Files R) (m : Sink M) (limits : Limits) (was is :
         record {
           lines = x.1.lines;
           takes = x.1.takes;
-          same = λ told.
-              ap (λ a. (state (f.sources was) start (f.openings is) after (told ++ x.1.lines), a)) is_done
+          same = λ told. ap (λ a. (state (f.sources was) start (f.openings is) after (told ++ x.1.lines), a)) is_done
               ∙ ap (λ (a : Answered (Option Simple)). (a.0, done a.1)) (x.1.same told);
         },
       )
@@ -322,12 +315,7 @@ module _ {R M B : Type 0} (f : Files R) (m : Sink M) (limits : Limits) (was is :
       (λ going honest start nested.
       done_if answer _ (if_lost answer _ _ (λ fault x. elim x [
         | inl y ↦ inl y
-        | inr y ↦ inr (record {
-          turns = y.turns;
-          cut = y.cut;
-          opened = y.opened;
-          unread = y.unread;
-        })
+        | inr y ↦ inr (record { turns = y.turns; cut = y.cut; opened = y.opened; unread = y.unread })
       ]) (r going honest start nested)))
 
   pub done_stays : Stays f was is before after answer → Stays f was is before after result
@@ -343,8 +331,7 @@ module _ {R M B : Type 0} (f : Files R) (m : Sink M) (limits : Limits) (was is :
       }
 
   done_fault : HasCause f m was is old new before after answer → HasCause f m was is old new before after result
-  done_fault c =
-      subst (λ (a : Result ⊤ UnitFault). HasCause f m was is old new before after a) (sym is_done) (done_if answer _ c)
+  done_fault c = subst (λ (a : Result ⊤ UnitFault). HasCause f m was is old new before after a) (sym is_done) (done_if answer _ c)
 
   done_adds : Adds m old new answer → Adds m old new result
   done_adds a =

@@ -74,8 +74,7 @@ behind_both p k true a b f g = f
 behind_both p k false a b f g = g
 
 code_piece-behind : (p : Piece) (found : ℕ × ℕ) → Behind p (1 + found.0) (code_piece found)
-code_piece-behind p found =
-    behind_both p _ (eqb found.0 0) _ _ (behind_err p _ _)
+code_piece-behind p found = behind_both p _ (eqb found.0 0) _ _ (behind_err p _ _)
     (behind_both p _ (is_code found.1) _ _ (behind_ok p _ _ refl) (behind_err p _ _))
 
 character_piece-behind : (p : Piece) (o : Option ℕ) (k : ℕ) → Behind p k (character_piece o k)
@@ -83,8 +82,7 @@ character_piece-behind p None k = behind_err p k _
 character_piece-behind p (Some c) k = behind_ok p _ k refl
 
 unicode_piece-behind : (p : Piece) (bytes : List ℕ) (found : ℕ × ℕ) → Behind p (2 + found.0) (unicode_piece bytes found)
-unicode_piece-behind p bytes found =
-    behind_both p _ (eqb found.0 0 || not (closes (drop found.0 bytes))) _ _ (behind_err p _ _)
+unicode_piece-behind p bytes found = behind_both p _ (eqb found.0 0 || not (closes (drop found.0 bytes))) _ _ (behind_err p _ _)
     (character_piece-behind p (zscii_of_unicode found.1) (2 + found.0))
 
 variable_piece-behind : (p : Piece) (m : Mode) (tens : ℕ) (bytes : List ℕ) → Behind p 2 (variable_piece m tens bytes)
@@ -105,8 +103,7 @@ accent_piece-behind : (p : Piece) (a : ℕ) (bytes : List ℕ) → Behind p 2 (a
 accent_piece-behind p a [] = behind_err p 2 _
 accent_piece-behind p a (b ∷ bytes) = go (spelled a b)
   where
-    go : (o : Option ℕ) →
-        Behind p 2 (elim o as (λ _. Result Piece TextFault)
+    go : (o : Option ℕ) → Behind p 2 (elim o as (λ _. Result Piece TextFault)
         [ None ↦ Err TextFault.UnknownEscape | Some c ↦ Ok (one (TextItem.Character c) 2) ])
     go None = behind_err p 2 _
     go (Some c) = behind_ok p _ 2 refl
@@ -194,8 +191,7 @@ escape_piece-far p m (b ∷ bytes) e =
 escape_piece-cut : (p : Piece) (m : Mode) (xs ys : List ℕ) → p.behind ≤ length xs → Keeps p (escape_piece m (xs ++ ys)) (escape_piece m xs)
 unfolding escape_piece Keeps Far
 escape_piece-cut p m [] ys le e = let some : 1 ≤ p.behind = escape_piece-far p m ys e in absurd (omega arith)
-escape_piece-cut p m (x ∷ xs) ys le e =
-    keeps_both p (eqb x 64) _ _ _ _ (code_piece-cut p xs ys (omega arith))
+escape_piece-cut p m (x ∷ xs) ys le e = keeps_both p (eqb x 64) _ _ _ _ (code_piece-cut p xs ys (omega arith))
     (keeps_both p (eqb x 123) _ _ _ _ (unicode_piece-cut p xs ys (omega arith))
     (plain_escape-cut p m x xs ys (digit_of 10 x) (omega arith))) e
 
@@ -232,7 +228,6 @@ run-cut p set after_mark b xs ys le e =
 pub piece_at-cut : (set : CharSet) (m : Mode) (after_mark : Bool) (b : ℕ) (xs ys : List ℕ) (p : Piece) →
     piece_at set m after_mark b (xs ++ ys) ≡ Ok p → p.behind ≤ length xs → piece_at set m after_mark b xs ≡ Ok p
 unfolding piece_at Keeps white
-piece_at-cut set m after_mark b xs ys p e le =
-    keeps_both p (eqb b 64) _ _ _ _ (escape_piece-cut p m xs ys le)
+piece_at-cut set m after_mark b xs ys p e le = keeps_both p (eqb b 64) _ _ _ _ (escape_piece-cut p m xs ys le)
     (keeps_both p (eqb b 92) _ _ _ _ (stroke-cut p set xs ys le)
     (keeps_both p (is_white set b) _ _ _ _ (run-cut p set after_mark b xs ys le) (λ same. same))) e

@@ -41,8 +41,7 @@ character_piece-told None k = told_character
 character_piece-told (Some c) k = told_ok _
 
 unicode_piece-told : (bytes : List ℕ) (found : ℕ × ℕ) → Told (unicode_piece bytes found)
-unicode_piece-told bytes found =
-    told_both (eqb found.0 0 || not (closes (drop found.0 bytes))) _ _ told_escape
+unicode_piece-told bytes found = told_both (eqb found.0 0 || not (closes (drop found.0 bytes))) _ _ told_escape
     (character_piece-told (zscii_of_unicode found.1) (2 + found.0))
 
 variable_piece-told : (m : Mode) (tens : ℕ) (bytes : List ℕ) → Told (variable_piece m tens bytes)
@@ -71,8 +70,7 @@ accent_piece-told a (b ∷ bytes) = go (spelled a b)
 escape_piece-told : (m : Mode) (bytes : List ℕ) → Told (escape_piece m bytes)
 unfolding escape_piece
 escape_piece-told m [] = told_escape
-escape_piece-told m (b ∷ bytes) =
-    told_both (eqb b 64) _ _ (code_piece-told (number_from 10 0 0 bytes))
+escape_piece-told m (b ∷ bytes) = told_both (eqb b 64) _ _ (code_piece-told (number_from 10 0 0 bytes))
     (told_both (eqb b 123) _ _ (unicode_piece-told bytes (number_from 16 0 0 bytes)) (go (digit_of 10 b)))
   where
     go : (o : Option ℕ) →
@@ -82,8 +80,7 @@ escape_piece-told m (b ∷ bytes) =
 
 piece_at-told : (set : CharSet) (m : Mode) (after_mark : Bool) (b : ℕ) (bytes : List ℕ) → Told (piece_at set m after_mark b bytes)
 unfolding piece_at
-piece_at-told set m after_mark b bytes =
-    told_both (eqb b 64) _ _ (escape_piece-told m bytes)
+piece_at-told set m after_mark b bytes = told_both (eqb b 64) _ _ (escape_piece-told m bytes)
     (told_both (eqb b 92) _ _ (told_ok _) (told_both (is_white set b) _ _ (told_ok _) (go (zscii_of set b))))
   where
     go : (o : Option ℕ) → Told (elim o as (λ _. Result Piece TextFault) [
@@ -100,8 +97,7 @@ pub Continues-fault : (set : CharSet) (m : Mode) (after_mark : Bool) (items : Li
     after_mark items rest bytes → Reads set m bytes (Err fault)
 unfolding Told
 Continues-fault set m after_mark items rest bytes first tail fault split found h =
-    let step : text_from set m after_mark 0 rest ≡ Err fault =
-    ap (text_from set m after_mark 0) split
+    let step : text_from set m after_mark 0 rest ≡ Err fault = ap (text_from set m after_mark 0) split
     ∙ ap (λ (r : Result Piece TextFault). and_then r (λ p. text_from set m p.is_mark p.behind tail)) found in
     go fault (sym h.value ∙ ap (with_front items) step) (λ e. piece_at-told set m after_mark first tail (found ∙ e))
   where

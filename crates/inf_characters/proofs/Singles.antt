@@ -175,8 +175,7 @@ module _ (set : CharSet) (mode : Mode) (bytes : List ℕ) where
           (drop (run_len tail) tail) bytes) →
           Continues set mode false (items ++ characters (take (cond t (suc (run_len tail)) 0) (b ∷ tail)))
           (drop (cond t (suc (run_len tail)) 0) (b ∷ tail)) bytes
-      go true e more =
-          rw (append_assoc items (TextItem.Character b ∷ []) (characters (take (run_len tail) tail))) at
+      go true e more = rw (append_assoc items (TextItem.Character b ∷ []) (characters (take (run_len tail) tail))) at
           (more (single_more false items b tail e h))
       go false e more = rw (append-nil items) h
 

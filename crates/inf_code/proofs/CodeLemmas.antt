@@ -77,8 +77,7 @@ stands_for-append place middle fixups more bytes new cells others at first secon
       are = cells_from-append place middle (middle + length new) fixups more bytes new at within second.in_order
           ∙ ap (λ xs. xs ++ cells_from middle more new) first.are ∙ ap (λ xs. cells ++ xs) second.are;
       bytes_are = bytes_of-append cells others ∙ ap (λ xs. xs ++ bytes_of others) first.bytes_are ∙ ap (λ xs. bytes ++ xs) second.bytes_are;
-      fixups_are =
-          fixups_of-append AreaName.Code place cells others
+      fixups_are = fixups_of-append AreaName.Code place cells others
           ∙ ap (λ xs. xs ++ fixups_of AreaName.Code (place + size_of cells) others) first.fixups_are
           ∙ ap (λ n. fixups ++ fixups_of AreaName.Code n others) behind ∙ ap (λ xs. fixups ++ xs) second.fixups_are;
     }
@@ -97,8 +96,7 @@ stands_for-later place target =
     let both : place + 2 - place ≡ 2 = omega arith in
     record {
       in_order = (omega arith, omega arith);
-      are =
-          ap (λ n. known (take n zeros) ++ CodeCell.Later target ∷ known (drop (place + 2 - place) zeros)) none
+      are = ap (λ n. known (take n zeros) ++ CodeCell.Later target ∷ known (drop (place + 2 - place) zeros)) none
           ∙ ap (λ n. CodeCell.Later target ∷ known (drop n zeros)) both;
       bytes_are = refl;
       fixups_are = refl;

@@ -113,8 +113,7 @@ module _ (scale : Scale) (kind : RoutineKind) (limits : CodeLimits) (finished : 
   contents = contents_of routine bytes
 
   written_is : written ≡ take finished bytes ++ (contents.locals ∷ closes.body ++ closing kind contents)
-  written_is =
-      closes.bytes ∙ ap (λ n. take n bytes ++ contents.locals ∷ closes.body ++ closing kind contents) is.behind.start
+  written_is = closes.bytes ∙ ap (λ n. take n bytes ++ contents.locals ∷ closes.body ++ closing kind contents) is.behind.start
       ∙ append_assoc (take finished bytes) (contents.locals ∷ closes.body) (closing kind contents)
 
   pub front_closed : take finished written ≡ take finished bytes
@@ -124,8 +123,7 @@ module _ (scale : Scale) (kind : RoutineKind) (limits : CodeLimits) (finished : 
   long_enough = omega (
     arith,
     first_within limits finished refs bytes (Some routine) is,
-    within_along limits finished refs bytes
-        (Some routine) is written front_closed,
+    within_along limits finished refs bytes (Some routine) is written front_closed,
   )
 
   pub code_closed : whole ≡ written ++ zeros_behind scale closed.len
@@ -186,8 +184,7 @@ module _ (scale : Scale) (kind : RoutineKind) (limits : CodeLimits) (finished : 
         within = omega arith;
         front = whole_front filled;
         stands = whole_stands filled;
-        limit = ap (λ (h : Fixups). h.limit)
-            closes.fixups ∙ is.limit;
+        limit = ap (λ (h : Fixups). h.limit) closes.fixups ∙ is.limit;
         few = omega (arith, few);
         behind = tt;
       }
@@ -213,8 +210,7 @@ module _ (scale : Scale) (kind : RoutineKind) (limits : CodeLimits) (finished : 
       let all : length (take (length whole) whole) ≡ length whole = ap length (take_all (length whole) whole (omega arith)) in
       omega (
         arith,
-        size-stands_for 8 listed.list (source_bytes (length whole) whole) (source_cells (length whole) listed whole)
-            (whole_stands filled),
+        size-stands_for 8 listed.list (source_bytes (length whole) whole) (source_cells (length whole) listed whole) (whole_stands filled),
         length-drop 8 (take (length whole) whole),
         all,
         eight,
@@ -231,21 +227,3 @@ closed_size scale kind limits finished refs listed bytes written routine closed 
     ap place_behind (sym (finished_closed scale kind limits finished refs listed bytes written whole routine closed is closes refl))
     ∙ size_after scale kind limits finished refs listed bytes written whole routine closed is closes refl
     ∙ length-append written (zeros_behind scale closed.len)
-
--- code is kept where the bytes behind the finished routines are given up
-pub code_lost : (limits : CodeLimits) (finished : ℕ) (refs : Fixups) (bytes new : List ℕ) (routine : State) →
-    IsCode limits finished refs bytes (Some routine)
-    → take routine.start new ≡ take routine.start bytes → routine.start ≤ length new → (IsCode limits finished refs new None) ×
-    (take finished new ≡ take finished bytes)
-code_lost limits finished refs bytes new routine is front within =
-    let same : take finished new ≡ take finished bytes = subst (λ n. take n new ≡ take n bytes) is.behind.start front in (
-      record {
-        within = omega (arith, is.behind.start, within);
-        front = front_along limits finished refs bytes (Some routine) is new same;
-        stands = stands_along limits finished refs bytes (Some routine) is new same;
-        limit = is.limit;
-        few = is.few;
-        behind = tt;
-      },
-      same,
-    )

@@ -1,9 +1,11 @@
 -- The fault at the end of a routine, by the parts of the code.
 use Rattle.std.specs.Prelude.{Result, Ok, Err, MatchResult}
-use Rattle.std.proofs.Common.{◌≡◌, ◌⊎◌, ◌+◌, ◌++◌, inl, inr, ℕ, Bool, false, true, cond, List, length, Option, Some, None, refl, sym, ◌∙◌, ap}
+use Rattle.std.proofs.Common.{◌≡◌, ◌⊎◌, ◌+◌, ◌++◌, inl, inr, ℕ, Bool, false, cond, List, length, Option, Some, None, refl, sym, ◌∙◌, ap}
 use Rattle.inf_area.specs.{Cells.later_count, Fixups.Fixups, declared.cells.Cell.Cell as CodeCell, declared.scale.Scale.Scale}
 use Rattle.inf_assembler.specs.declared.{routines.CloseFault.CloseFault, routines.Closed.Closed, routines.RoutineKind.RoutineKind}
 use Rattle.inf_assembler.specs.Routines.{Closes, State, contents_of, fault_of}
+use Rattle.inf_settings.specs.Bounds.{Limits}
+use Rattle.inf_code.specs.Code.{Routines, code_limits, fault_closed, fault_end, open_in}
 use Rattle.inf_code.specs.Code.{IsCode, IsSpare, fault_behind, fault_of_full, finished_fault, first_fault, full_finished, padded}
 use Rattle.inf_code.specs.Code.{place_behind, references_before, routine_cells, source_bytes, source_cells, zeros_behind}
 use Rattle.inf_code.specs.declared.code.CodeLimits.{CodeLimits}
@@ -23,6 +25,23 @@ module _ (limits : CodeLimits) (finished : ℕ) (refs spare : Fixups) (bytes : L
       fault_of routine.start kind (contents_of routine bytes) routine.limits listed ≡ wrong
   is_first listed same = end_is limits finished refs listed bytes is_lost routine is
       (lists is_lost finished refs spare bytes listed is.stands is.limit empty same) kind
+
+-- the fault at the end of the code's routine, by what is known of the code's fields
+pub closed_as : {scale : Scale} {has_begun : Bool} {finished : List CodeCell} {routines : ℕ} {lost is_lost : Bool} {routine : State}
+    {open_one : Option State} {code : Routines} {limits : CodeLimits} (kind : RoutineKind) (most : Limits) (bytes : List ℕ)
+    → open_one ≡ Some routine → is_lost ≡ lost → limits ≡ code_limits most → record {
+      scale = scale;
+      has_begun = has_begun;
+      finished = finished;
+      routines = routines;
+      opened = open_in bytes is_lost open_one;
+    } ≡ code
+    → fault_end limits scale kind finished (open_in bytes lost (Some routine)) ≡ fault_closed most kind code
+closed_as {scale = scale} {finished = finished} {lost = lost} {is_lost = is_lost} {open_one = r} {limits = limits} kind most bytes some kept
+    is_most view =
+    ap (λ o. fault_end limits scale kind finished (open_in bytes lost o)) (sym some)
+    ∙ ap (λ b. fault_end limits scale kind finished (open_in bytes b r)) (sym kept)
+    ∙ ap (λ l. fault_end l scale kind finished (open_in bytes is_lost r)) is_most ∙ ap (fault_closed most kind) view
 
 -- the fault is the first one, or want of memory
 pub told_first : (first later : Option CloseFault) (fault : CloseFault) → (fault ≡ CloseFault.Memory) ⊎ (first ≡ Some fault) →
@@ -58,6 +77,5 @@ listed_are scale kind limits finished refs listed bytes written routine closed i
 -- the setting that the finished routines would pass, by the bytes of the area and the references that are listed
 pub full_is : (limits : CodeLimits) (cells : List CodeCell) (bytes listed : ℕ) → place_behind cells ≡ bytes → later_count cells ≡ listed
     → finished_fault false limits cells ≡ fault_of_full (full_finished limits bytes (5 + listed))
-full_is limits cells bytes listed size count =
-    ap (λ n. fault_of_full (full_finished limits n (5 + later_count cells))) size
+full_is limits cells bytes listed size count = ap (λ n. fault_of_full (full_finished limits n (5 + later_count cells))) size
     ∙ ap (λ n. fault_of_full (full_finished limits bytes (5 + n))) count

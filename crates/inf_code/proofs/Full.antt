@@ -28,8 +28,7 @@ pub not_too_many : (limit len own count : ℕ) → own < limit - len → count �
 not_too_many limit len own count is same = grind (arith, nat_tests, is, same)
 
 -- where no limit is passed, the limit of bytes is not passed
-pub code_is_free : (full : Bool) (rest : Option Limit) → cond full (Some Limit.Code) rest ≡ None →
-    cond full (Some Limit.Code) None ≡ None
+pub code_is_free : (full : Bool) (rest : Option Limit) → cond full (Some Limit.Code) rest ≡ None → cond full (Some Limit.Code) None ≡ None
 code_is_free true rest e = cc
 code_is_free false rest e = refl
 
@@ -51,8 +50,7 @@ lists true finished refs spare bytes listed stands limit empty is =
 lists false finished refs spare bytes listed stands limit empty is =
     record {
       limit = ap (λ (f : Fixups). f.limit) is ∙ limit;
-      count =
-          ap (λ (f : Fixups). length f.list) is
+      count = ap (λ (f : Fixups). length f.list) is
           ∙ sym (later_stands_for 8 refs.list (source_bytes finished bytes) (source_cells finished refs bytes) stands);
     }
 
@@ -74,13 +72,11 @@ bytes_are limits finished refs bytes routine is =
 
 -- the fault of a routine at its limits, under any bounds
 abbrev pub limit_by : Limits → ℕ → ℕ → Contents → ℕ → Option CloseFault
-limit_by limits most references contents len =
-    cond (is_full contents.is_final limits.code len) (Some (CloseFault.Full Limit.Code))
+limit_by limits most references contents len = cond (is_full contents.is_final limits.code len) (Some (CloseFault.Full Limit.Code))
     (cond (nat_lt most (references + fixup_count contents.cells)) (Some (CloseFault.Full Limit.Refs)) None)
 
 abbrev pub behind_by : Limits → ℕ → ℕ → ℕ → Contents → Option CloseFault
-behind_by limits most start references contents =
-    missing_fault
+behind_by limits most start references contents = missing_fault
     (twice_fault (body_fault (λ body. limit_by limits most references contents (start + 1 + length body)) (body_bytes start contents))
     (twice_behind [] contents.cells))
     (missing (long_places start contents) contents.cells)
@@ -123,8 +119,7 @@ module _ (limits : CodeLimits) (finished : ℕ) (refs listed : Fixups) (bytes : 
   pub end_is : (kind : RoutineKind) → fault_of routine.start kind (contents_of routine bytes) routine.limits listed ≡ fault_behind
       (place_behind (source_cells finished refs bytes)) (references_before is_lost (source_cells finished refs bytes))
       (contents_of routine bytes)
-  end_is kind =
-      ap (λ (l : Limits). behind_by l listed.limit routine.start (length listed.list) contents) is.behind.limits
+  end_is kind = ap (λ (l : Limits). behind_by l listed.limit routine.start (length listed.list) contents) is.behind.limits
       ∙ ap (λ n. behind_by routine_bounds n routine.start (length listed.list) contents) kept.limit
       ∙ ap (λ n. fault_behind n (length listed.list) contents) start_is
       ∙ ap (λ n. fault_behind (place_behind before) n contents) kept.count

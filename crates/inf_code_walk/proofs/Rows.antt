@@ -192,8 +192,7 @@ module _ (limits : Limits) (L : Target → Type 0) where
 
   given_calls : (r : Simple) (all : List Simple) (store : Option ℕ) → Meets L r → AllMeet L all → Built (calling limits r all store) [] []
   unfolding calling
-  given_calls r all store h k =
-      Instructs (call_opcode store (length (take 7 all))) (r ∷ take 7 all) store None (h, take_meet 7 all k)
+  given_calls r all store h k = Instructs (call_opcode store (length (take 7 all))) (r ∷ take 7 all) store None (h, take_meet 7 all k)
 
   pub call_made : (f : Part) (ps : List Part) → PartMade f → PartsMade ps → (store : Option ℕ) → Built (call limits f ps store) [] []
   call_made f ps h k store =
@@ -221,10 +220,7 @@ module _ (limits : Limits) (L : Target → Type 0) where
 
   truth : (branch : Bool → Label → Code) → ((sense : Bool) (label : Label) → Built (branch sense label) (label.number ∷ []) []) → (d : ℕ)
       → Built (code.truth limits branch d) [] []
-  truth branch h d =
-      Handed λ fails. Handed λ last.
-      turned fails.number last.number
-      (behind (at_second (h false fails))
+  truth branch h d = Handed λ fails. Handed λ last. turned fails.number last.number (behind (at_second (h false fails))
       (before (puts (Simple.Known 1) tt d)
       (behind (at_first (Jumps last))
       (Then {a = fails.number ∷ []} {b = last.number ∷ []} (Marks fails) (before (puts (Simple.Known 0) tt d) (Marks last))))))
@@ -335,8 +331,7 @@ module _ (limits : Limits) (L : Target → Type 0) where
 
   steps : (is_before : Bool) (how : Direction) (a : Meaning) → MeaningMade a → MeaningMade (code.stepped limits is_before how a)
   unfolding code.step_value code.step_alone
-  steps is_before how a h =
-      valued (code.stepped_value limits is_before how a.target a) (code.stepped_alone limits is_before how a.target a)
+  steps is_before how a h = valued (code.stepped_value limits is_before how a.target a) (code.stepped_alone limits is_before how a.target a)
       (stepped_value is_before how a.target h.target a h) (stepped_alone is_before how a.target h.target a h)
 
   -- Lemmas about calls, and objects that an instruction finds
@@ -432,8 +427,7 @@ module _ (limits : Limits) (L : Target → Type 0) where
   kept : (is_kept : Bool) (t : Test) (a : Meaning) → MeaningMade a → (ps : List Part) → PartsMade ps → (sense : Bool) (label there : Label)
       → Built (code.kept_tests limits is_kept t a ps sense label there) (label.number ∷ there.number ∷ []) []
   kept true t a h ps k sense label there = before (h.value TEMP) (tests t (Simple.Variable TEMP) tt ps k sense label there)
-  kept false t a h ps k sense label there =
-      before (evaluates (part a ∷ ps) (part_made a h, k))
+  kept false t a h ps k sense label there = before (evaluates (part a ∷ ps) (part_made a h, k))
       (at_first (compared t (take (code.most_compared t) (operands (part a ∷ ps)))
       (take_meet (code.most_compared t) (operands (part a ∷ ps)) (meet (part a ∷ ps) (part_made a h, k))) sense label))
 
@@ -451,8 +445,7 @@ module _ (limits : Limits) (L : Target → Type 0) where
   test_branches : (t : Test) (a b : Meaning) → MeaningMade a → MeaningMade b → (sense : Bool) (label : Label)
       → Built (code.test_branch limits t a b sense label) (label.number ∷ []) []
   unfolding code.test_branch
-  test_branches t a b h k sense label =
-      Handed λ over.
+  test_branches t a b h k sense label = Handed λ over.
       let there = if sense then label else over in
       let needs = over.number ∷ label.number ∷ [] in
       let has = has_later label.number over.number (label.number ∷ []) (has_first label.number []) in

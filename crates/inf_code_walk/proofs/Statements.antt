@@ -136,15 +136,13 @@ module _ (limits : Limits) (L : Target → Type 0) where
   items_made : (set : CharSet) (tokens : List SourceToken) (returns ends : Bool) (items : List Item) (trees : List Tree)
       → TreesMeet L trees → Alone (items_printed limits set tokens returns ends items trees)
   items_made set tokens returns ends [] trees h = ended_made ends
-  items_made set tokens returns ends (i ∷ items) trees h =
-      before (item_made set tokens returns items i trees h)
+  items_made set tokens returns ends (i ∷ items) trees h = before (item_made set tokens returns items i trees h)
       (items_made set tokens returns (ends_behind i returns) items (trees_behind i trees) (behind_meet i trees h))
 
   -- Lemmas about single statements
 
   number_made : (n : ℕ) → Alone (returned_number limits n)
-  number_made n =
-      either_made (n == 1) (plain_made Opcode.Rtrue)
+  number_made n = either_made (n == 1) (plain_made Opcode.Rtrue)
       (either_made (n == 0) (plain_made Opcode.Rfalse) (Instructs Opcode.Ret (Simple.Known n ∷ []) None None (tt, tt)))
 
   returned_by_made : (x : Option Simple) → MaybeMeets L x → (m : Meaning) → MeaningMade limits L m → Alone (returned_by limits x m)
@@ -165,8 +163,7 @@ module _ (limits : Limits) (L : Target → Type 0) where
   moved_made : (trees : List Tree) → TreesMeet L trees → Alone (moved limits trees)
   moved_made [] h = Nothing
   moved_made (a ∷ []) h = Nothing
-  moved_made (a ∷ b ∷ trees) h =
-      worked_made limits L Opcode.InsertObj (part (meaning limits a) ∷ part (meaning limits b) ∷ [])
+  moved_made (a ∷ b ∷ trees) h = worked_made limits L Opcode.InsertObj (part (meaning limits a) ∷ part (meaning limits b) ∷ [])
       (tree_part a h.0, (tree_part b h.1.0, tt)) None None
 
   spaced_made : (trees : List Tree) → TreesMeet L trees → Alone (spaced limits trees)
@@ -182,15 +179,13 @@ module _ (limits : Limits) (L : Target → Type 0) where
   changed_made : FixedMeet L → (text : Option (List TextItem)) (trees : List Tree) → TreesMeet L trees
       → Alone (string_changed limits text trees)
   changed_made fixed None trees h = Nothing
-  changed_made fixed (Some text) trees h =
-      behind Packs (Lows (packed text []) (λ low. string_set limits low trees)
+  changed_made fixed (Some text) trees h = behind Packs (Lows (packed text []) (λ low. string_set limits low trees)
       (λ o. set_made _ (fixed.place AreaName.LowStrings _) (fixed.place AreaName.Abbreviations 0) trees h))
 
   on_made : (action : Part) → PartMade limits L action → (trees : List Tree) → TreesMeet L trees → Alone (action_on limits action trees)
   on_made action s [] h = ask_made limits L Veneer.Process (action ∷ []) (s, tt) None
   on_made action s (a ∷ []) h = ask_made limits L Veneer.Process (action ∷ part (meaning limits a) ∷ []) (s, (tree_part a h.0, tt)) None
-  on_made action s (a ∷ b ∷ trees) h =
-      ask_made limits L Veneer.Process (action ∷ part (meaning limits a) ∷ part (meaning limits b) ∷ [])
+  on_made action s (a ∷ b ∷ trees) h = ask_made limits L Veneer.Process (action ∷ part (meaning limits a) ∷ part (meaning limits b) ∷ [])
       (s, (tree_part a h.0, (tree_part b h.1.0, tt))) None
 
   action_made : (trees : List Tree) → TreesMeet L trees → Alone (action_laid limits trees)
@@ -218,14 +213,12 @@ module _ (limits : Limits) (L : Target → Type 0) where
   attributes_made : (object : Part) → PartMade limits L object → (items : List Item) (attributes : List Tree) → TreesMeet L attributes
       → Alone (attributes_given limits object items attributes)
   attributes_made object s [] attributes h = Nothing
-  attributes_made object s (i ∷ items) attributes h =
-      before (attribute_made (attribute_opcode i) object s attributes h)
+  attributes_made object s (i ∷ items) attributes h = before (attribute_made (attribute_opcode i) object s attributes h)
       (attributes_made object s items (rest attributes) (rest_meet attributes h))
 
   given_made : (several : Bool) (x : Option Simple) (m : Meaning) → MeaningMade limits L m → (items : List Item) (attributes : List Tree)
       → TreesMeet L attributes → Alone (given_by limits several x m items attributes)
-  given_made true None m s items attributes h =
-      before (s.value TEMP)
+  given_made true None m s items attributes h = before (s.value TEMP)
       (attributes_made (is (Simple.Variable TEMP)) (is_made limits L (Simple.Variable TEMP) tt) items attributes h)
   given_made true (Some x) m s items attributes h = attributes_made (part m) (part_made limits L m s) items attributes h
   given_made false None m s items attributes h = attributes_made (part m) (part_made limits L m s) items attributes h
@@ -308,13 +301,11 @@ module _ (limits : Limits) (L : Target → Type 0) where
   group_made (a ∷ others) h sense l = Instructs Opcode.Je (Simple.Variable SWITCHED ∷ a ∷ others) None (to sense l) (tt, h)
 
   beside_made : (a b : Simple) → Meets L a → Meets L b → (next : Label) → Made limits L (beside limits a b next) (next.number ∷ []) []
-  beside_made a b h k next =
-      behind (Instructs Opcode.Jl (Simple.Variable SWITCHED ∷ a ∷ []) None (to true next) (tt, (h, tt)))
+  beside_made a b h k next = behind (Instructs Opcode.Jl (Simple.Variable SWITCHED ∷ a ∷ []) None (to true next) (tt, (h, tt)))
       (Instructs Opcode.Jg (Simple.Variable SWITCHED ∷ b ∷ []) None (to true next) (tt, (k, tt)))
 
   within_made : (a b : Simple) → Meets L a → Meets L b → (here : Label) → Made limits L (within limits a b here) (here.number ∷ []) []
-  within_made a b h k here =
-      Handed λ beyond.
+  within_made a b h k here = Handed λ beyond.
       behind (at_first (Instructs Opcode.Jl (Simple.Variable SWITCHED ∷ a ∷ []) None (to true beyond) (tt, (h, tt))))
       (behind (at_second (Instructs Opcode.Jg (Simple.Variable SWITCHED ∷ b ∷ []) None (to false here) (tt, (k, tt)))) (Marks beyond))
 
@@ -336,8 +327,7 @@ module _ (limits : Limits) (L : Target → Type 0) where
 
   before_made : (ends : Option (Tree × Tree)) → EndsMeet ends → (is_last : Bool) (group : List Simple) → AllMeet L group
       → (here next : Label) → Made limits L (laid_before limits ends is_last group here next) (here.number ∷ next.number ∷ []) []
-  before_made (Some ends) e is_last group h here next =
-      behind (at_first (group_made group h true here))
+  before_made (Some ends) e is_last group h here next = behind (at_first (group_made group h true here))
       (range_made is_last (operand_in limits ends.0) (operand_in limits ends.1) (operand_meets_in limits L ends.0 e.0)
       (operand_meets_in limits L ends.1 e.1) here next)
   before_made None e is_last group h here next = at_first (full_made (is_open group) group h here)
@@ -371,8 +361,7 @@ module _ (limits : Limits) (L : Target → Type 0) where
   grouped_made : (group : List Simple) → AllMeet L group → (values : List Tree) → TreesMeet L values → (here next : Label)
       → Made limits L (grouped limits group values here next) (here.number ∷ next.number ∷ []) []
   grouped_made group h [] s here next = at_second (group_made group h false next)
-  grouped_made group h (v ∷ values) s here next =
-      behind (value_made v s.0 (is_empty values) group h here next)
+  grouped_made group h (v ∷ values) s here next = behind (value_made v s.0 (is_empty values) group h here next)
       (grouped_made (value_grouped limits v group) (grouped_meet v group s.0 h) values s.1 here next)
 
   tests_made : (values : List Tree) → TreesMeet L values → (next : Label)
@@ -405,8 +394,7 @@ module _ (limits : Limits) (L : Target → Type 0) where
 
   pub all_made : (e : Tree) → TreeMeets L e → (v : ℕ) (c : Construct)
       → Made limits L (over_all limits (meaning limits e) v c) (c.next.number ∷ []) (c.top.number ∷ [])
-  all_made e h v c =
-      before (Names Opcode.Store v (Simple.Known 5 ∷ []) None None (tt, tt))
+  all_made e h v c = before (Names Opcode.Store v (Simple.Known 5 ∷ []) None None (tt, tt))
       (Then {a = c.top.number ∷ []} {b = []} (Marks c.top)
       (over_made (meaning limits e).operand (meaning limits e) (meaning_made limits L e h) c.next))
 
@@ -441,8 +429,7 @@ module _ (limits : Limits) (L : Target → Type 0) where
       Takes (λ o. (label_of name (next_label o) labels, wanted name (next_label o) labels)) (λ o. number_behind o.next)
 
   placed_laid : (name : List ℕ) (labels : List NamedLabel) → Laid limits L _ (placed name labels)
-  placed_laid name labels =
-      Takes (λ o. (label_of name (next_label o) labels, given name (next_label o) labels)) (λ o. number_behind o.next)
+  placed_laid name labels = Takes (λ o. (label_of name (next_label o) labels, given name (next_label o) labels)) (λ o. number_behind o.next)
 
   -- Lemmas about assembly lines
 
@@ -491,8 +478,7 @@ module _ (limits : Limits) (L : Target → Type 0) where
   as_laid : (fits : Bool) (set : CharSet) (locals : List Local) (tokens : List SourceToken) (op : Opcode) (e : Ends) (trees : List Tree)
       → TreesMeet L trees → (labels : List NamedLabel)
       → Laid limits L _ (line_laid_as limits fits set locals tokens op e trees labels)
-  as_laid true set locals tokens op e trees h labels =
-      by_laid (row_of op).jumps (row_of op).has_text set locals tokens op e trees h labels
+  as_laid true set locals tokens op e trees h labels = by_laid (row_of op).jumps (row_of op).has_text set locals tokens op e trees h labels
   as_laid false set locals tokens op e trees h labels = Lays labels (Nothing {needs = []})
 
   line_is_laid : (set : CharSet) (locals : List Local) (tokens : List SourceToken) (op : Option Opcode) (e : Ends) (trees : List Tree)
@@ -525,8 +511,7 @@ module _ (limits : Limits) (L : Target → Type 0) where
 
   pub opened_laid : (k : Kind) → Laid limits L _ (opened limits k)
   unfolding opened
-  opened_laid k =
-      Binds (with_labels k) (λ c o. (c, front limits k c o))
+  opened_laid k = Binds (with_labels k) (λ c o. (c, front limits k c o))
       (Takes (λ o. (with_labels k o).0) (λ o. number_behind (number_behind (number_behind o.next)))) (λ c. Lays c (front_made k c))
 
   joint_made : (c : Construct) (k : Kind) → Made limits L (joint limits c k) (c.end.number ∷ []) (joint_labels c k)
@@ -561,15 +546,10 @@ module _ (limits : Limits) (L : Target → Type 0) where
       → Laid limits L _ (case_entered limits are_own is_default old had_default c)
   case_entered_laid are_own true old had_default c =
       Lays (record c { kind = with_case are_own Case.Default true }) (case_closed_made limits L old c.end)
-  case_entered_laid are_own false old had_default c =
-      Binds (λ o. (
-        record c {
-          kind =
-              with_case are_own (Case.Values (next_label o)) had_default;
-        },
-        record o { next = number_behind o.next },
-      ))
-      (λ d o. (d, case_closed limits old c.end o))
+  case_entered_laid are_own false old had_default c = Binds (λ o. (
+    record c { kind = with_case are_own (Case.Values (next_label o)) had_default },
+    record o { next = number_behind o.next },
+  )) (λ d o. (d, case_closed limits old c.end o))
       (Takes (λ o. record c { kind = with_case are_own (Case.Values (next_label o)) had_default }) (λ o. number_behind o.next))
       (λ d. Lays d (case_closed_made limits L old c.end))
 

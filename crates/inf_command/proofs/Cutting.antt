@@ -26,8 +26,7 @@ pub cut-joined : (parts : List (Bor (List ℕ))) → 0 < length parts →
     → cut_at_commas (join_with_byte 44 (map (λ part. part.now) parts)) ≡ map (λ part. part.now) parts
 cut-joined [] some lacks = absurd (omega (arith, some))
 cut-joined (x ∷ []) some lacks = cut-last x.now (lacks 0 x (omega arith))
-cut-joined (x ∷ y ∷ parts) some lacks =
-    cut-part x.now (join_with_byte 44 (map (λ part. part.now) (y ∷ parts))) (lacks 0 x (omega arith))
+cut-joined (x ∷ y ∷ parts) some lacks = cut-part x.now (join_with_byte 44 (map (λ part. part.now) (y ∷ parts))) (lacks 0 x (omega arith))
     ∙ ap (λ rest. x.now ∷ rest) (cut-joined (y ∷ parts) (omega arith) (λ k d lt. lacks (suc k) d (omega arith)))
 
 some_lacks : (o : Option (Bor (List ℕ))) (y : Bor (List ℕ)) → option_map (λ x. x) o ≡ Some y → IfSome o (λ x. LacksByte 44 x.now) →
@@ -41,6 +40,5 @@ some_lacks (Some x) y is lacks =
 pub run_cut : {S : Type 0} {steps : S → Option (Bor (List ℕ)) → S → Type 0} (p : Run steps) (path : List ℕ) → 0 < p.len
     → path ≡ join_with_byte 44 (map (λ x. x.now) p.items) → AllItems p (λ x. LacksByte 44 x.now)
     → map (λ x. x.now) p.items ≡ cut_at_commas path
-run_cut p path some joined lacks =
-    sym (ap cut_at_commas joined ∙ cut-joined p.items (omega (arith, some, p.long))
+run_cut p path some joined lacks = sym (ap cut_at_commas joined ∙ cut-joined p.items (omega (arith, some, p.long))
     (λ k d lt. some_lacks (p.at k) (get_or p.items k d) (p.reads k d (omega (arith, p.long, lt))) (lacks k)))

@@ -71,8 +71,7 @@ with_settings-over h t place s (Err refused) = refl
 take_setting-over : (h : HeadWords) (t : TakenWords) (place : ℕ) (o : Option Assigned) →
     take_setting (over h t) place o ≡ all_over h (take_setting t place o)
 take_setting-over h t place None = refl
-take_setting-over h t place (Some a) =
-    ap (λ (s : Spoken). with_settings (over h t) place s (answer_to (named a.name) a.number))
+take_setting-over h t place (Some a) = ap (λ (s : Spoken). with_settings (over h t) place s (answer_to (named a.name) a.number))
     (with_name-over (named a.name) a.number t.settings h.settings)
     ∙ with_settings-over h t place (with_name (named a.name) a.number t.settings) (answer_to (named a.name) a.number)
 
@@ -93,8 +92,7 @@ choice-over h false x y first second e f = f
 take_word-over : (h : HeadWords) (t : TakenWords) (place : ℕ) (word : List ℕ) →
     take_word (over h t) place word ≡ all_over h (take_word t place word)
 take_word-over h t place [] = take_name-over t.source t.story h t place []
-take_word-over h t place (b ∷ bs) =
-    choice-over h (b == 45) _ _ _ _
+take_word-over h t place (b ∷ bs) = choice-over h (b == 45) _ _ _ _
     (ap (take_letters (over h t) place) (chosen-over t.letters h.letters bs) ∙ take_letters-over h t place (chosen_letters t.letters bs))
     (choice-over h (b == 36) _ _ _ _ (take_setting-over h t place (assignment_of (b ∷ bs)))
     (choice-over h (b == 43) _ _ _ _ refl (take_name-over t.source t.story h t place (b ∷ bs))))
@@ -114,8 +112,7 @@ and_then-over h next (Err refused) law = refl
 read_from-over : (words : List (List ℕ)) (h : HeadWords) (t : TakenWords) (place : ℕ) →
     read_from (over h t) place words ≡ behind_head h (read_from t place words)
 read_from-over [] h t place = choice_of-over t.source h t
-read_from-over (word ∷ words) h t place =
-    ap (and_then (λ next. read_from next (place + 1) words)) (take_word-over h t place word)
+read_from-over (word ∷ words) h t place = ap (and_then (λ next. read_from next (place + 1) words)) (take_word-over h t place word)
     ∙ and_then-over h (λ next. read_from next (place + 1) words) (take_word t place word) (λ next. read_from-over words h next (place + 1))
 
 -- Words of a head, followed by those of the command, choose from left to right as the command's words over the head's.

@@ -13,8 +13,7 @@ stem_after-other b slash other = grind arith
 -- without a `.` there is no stem
 pub stem-no_dot : (bs : List ℕ) → ((i : ℕ) → i < length bs → get_or bs i 0 ≢ 46) → stem bs ≡ None
 stem-no_dot [] other = refl
-stem-no_dot (b ∷ bs) other =
-    ap (stem_after b (has_slash bs)) (stem-no_dot bs (λ i lt. other (suc i) (omega arith)))
+stem-no_dot (b ∷ bs) other = ap (stem_after b (has_slash bs)) (stem-no_dot bs (λ i lt. other (suc i) (omega arith)))
     ∙ stem_after-other b (has_slash bs) (other 0 (omega arith))
 
 -- the last `.` begins the extension where no `/` is behind it
@@ -30,8 +29,7 @@ has_slash-append (b ∷ front) back has = rw (has_slash-append front back has, o
 -- no `.` before a `/` begins an extension
 pub stem-before_slash : (front back : List ℕ) → stem back ≡ None → has_slash back ≡ true → stem (front ++ back) ≡ None
 stem-before_slash [] back none has = none
-stem-before_slash (b ∷ front) back none has =
-    ap (stem_after b (has_slash (front ++ back))) (stem-before_slash front back none has)
+stem-before_slash (b ∷ front) back none has = ap (stem_after b (has_slash (front ++ back))) (stem-before_slash front back none has)
     ∙ ap (λ s. stem_after b s None) (has_slash-append front back has) ∙ stem_after-slash b
   where
     stem_after-slash : (b : ℕ) → stem_after b true None ≡ None

@@ -113,13 +113,7 @@ opened_same is_quiet t place a true false c inner among texts fronts = record {
   given = end_heard is_quiet t place;
 }
 opened_same is_quiet t place a false true c inner among texts fronts = record {
-  now = record {
-    pending = refl;
-    conditions = refl;
-    sign = refl;
-    sides = behind_inner place false true inner among;
-    fronts = fronts;
-  };
+  now = record { pending = refl; conditions = refl; sign = refl; sides = behind_inner place false true inner among; fronts = fronts };
   given = end_heard is_quiet t place;
 }
 opened_same is_quiet t place a false false c [] among texts fronts = record {

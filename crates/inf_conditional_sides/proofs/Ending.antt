@@ -58,14 +58,12 @@ inner_of inner among = inner_before inner (outer_sides among) (inner_none among)
 
 outer_passed : (inside sides : List Side) → AllAre false inside → inner_only (inside ++ sides) ≡ inner_only sides
 outer_passed [] sides are = refl
-outer_passed (y ∷ inside) sides are =
-    ap (λ (b : Bool). if b then y ∷ inner_only (inside ++ sides) else inner_only (inside ++ sides)) are.0
+outer_passed (y ∷ inside) sides are = ap (λ (b : Bool). if b then y ∷ inner_only (inside ++ sides) else inner_only (inside ++ sides)) are.0
     ∙ outer_passed inside sides are.1
 
 inner_kept : (inside sides : List Side) → AllAre true inside → inner_only (inside ++ sides) ≡ inside ++ inner_only sides
 inner_kept [] sides are = refl
-inner_kept (y ∷ inside) sides are =
-    ap (λ (b : Bool). if b then y ∷ inner_only (inside ++ sides) else inner_only (inside ++ sides)) are.0
+inner_kept (y ∷ inside) sides are = ap (λ (b : Bool). if b then y ∷ inner_only (inside ++ sides) else inner_only (inside ++ sides)) are.0
     ∙ ap (λ (all : List Side). y ∷ all) (inner_kept inside sides are.1)
 
 inner_stay : (inner : List Conditional) → all_stay (inner_sides inner) ≡ true
@@ -79,13 +77,11 @@ inner_end (x ∷ inner) =
 
 inside_told : (is_inner : Bool) (side : LeftOut) (x : Conditional) (inner among : List Conditional) (sides : List Side)
     → LeftInside is_inner side.levels x inner among sides → at_end (inner_only sides) ≡ inner_sides (x ∷ inner)
-inside_told true side x inner among sides l =
-    ap (λ (all : List Side). at_end (inner_only all)) l.all
+inside_told true side x inner among sides l = ap (λ (all : List Side). at_end (inner_only all)) l.all
     ∙ (ap at_end (inner_kept l.inside (side_of true false x ∷ open_sides inner among) l.are
     ∙ ap (λ (all : List Side). l.inside ++ side_of true false x ∷ all) (inner_of inner among))
     ∙ left_at_end l.inside (inner_sides inner) true x (inner_stay inner))
-inside_told false side x inner among sides l =
-    ap (λ (all : List Side). at_end (inner_only all)) l.all
+inside_told false side x inner among sides l = ap (λ (all : List Side). at_end (inner_only all)) l.all
     ∙ (ap at_end (inner_before (x ∷ inner) (side_of false false l.x ∷ outer_sides l.others) (inner_none l.others)) ∙ inner_end (x ∷ inner))
 
 told_by : (left_out : Option LeftOut) (inner among : List Conditional) (sides : List Side) → StandFor left_out inner among sides
@@ -103,9 +99,7 @@ told_by (Some side) (x ∷ inner) among sides stand = inside_told side.is_inner 
 
 reversed : (f : Conditional → Side) (cs : List Conditional) → reverse (map f cs) ≡ map f (reverse cs)
 reversed f [] = refl
-reversed f (x ∷ cs) =
-    reverse-append (f x ∷ []) (map f cs)
-    ∙ (ap (λ (sides : List Side). sides ++ f x ∷ []) (reversed f cs)
+reversed f (x ∷ cs) = reverse-append (f x ∷ []) (map f cs) ∙ (ap (λ (sides : List Side). sides ++ f x ∷ []) (reversed f cs)
     ∙ (sym (map-append f (reverse cs) (x ∷ [])) ∙ ap (map f) (sym (reverse-append (x ∷ []) cs))))
 
 all_lone : (is_inner : Bool) (files : FileNames) (cs : List Conditional) (r : Reported)
@@ -115,8 +109,7 @@ all_lone is_inner files (x ∷ cs) r = all_lone is_inner files cs (with_lone fil
 
 told_of : (is_inner : Bool) (files : FileNames) (cs : List Conditional) (sides : List Side) (r : Reported)
     → sides ≡ map (side_of is_inner true) cs → with_all_lone files (reverse cs) r ≡ with_lone_sides files (reverse sides) r
-told_of is_inner files cs sides r e =
-    all_lone is_inner files (reverse cs) r
+told_of is_inner files cs sides r e = all_lone is_inner files (reverse cs) r
     ∙ ap (λ (all : List Side). with_lone_sides files all r) (sym (ap reverse e ∙ reversed (side_of is_inner true) cs))
 
 of_directives : (files : FileNames) (c : Conditions) (s : Sides) (r : Reported) → Agree c s → piece_told files c r ≡ piece_told_by files s r
@@ -126,8 +119,7 @@ of_directives files c s r a =
 pub ends_are_told_by_sides : EndsAreToldBySides
 ends_are_told_by_sides = record {
   of_directives = of_directives;
-  of_files = λ files c s r a settled.
-      told_of false files c.among (only_between (at_end s.sides)) (piece_told files c r)
+  of_files = λ files c s r a settled. told_of false files c.among (only_between (at_end s.sides)) (piece_told files c r)
       (ap only_between (at_end_by c.left_out c.inner c.among s.sides a.sides settled) ∙ between_of c.inner c.among)
       ∙ ap (with_lone_sides files (reverse (only_between (at_end s.sides)))) (of_directives files c s r a);
 }

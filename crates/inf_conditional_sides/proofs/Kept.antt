@@ -52,8 +52,7 @@ asked_agree : (place : Place) (is_inner wanted : Bool) (first : SourceToken) (ot
     → Agree (state c inner among (asking_pending place is_inner wanted ∷ pendings texts) (k ∷ conditions_of texts))
     (staying inner among (Directive place is_inner (asking wanted) first others ∷ texts))
 asked_agree place is_inner wanted first others k c inner among texts fronts is = record {
-  pending =
-      ap (λ (a : Awaits). record { place = place; is_inner = is_inner; awaits = a } ∷ pendings texts) (asking_awaits wanted others);
+  pending = ap (λ (a : Awaits). record { place = place; is_inner = is_inner; awaits = a } ∷ pendings texts) (asking_awaits wanted others);
   conditions = ap (λ o. with_condition o (conditions_of texts)) (sym is ∙ asking_condition wanted first others);
   sign = refl;
   sides = refl;
@@ -144,13 +143,11 @@ named_same is_quiet o TokenKind.Name bytes at is_class place is_inner first c in
     let others = asked c.declared o t ∷ [] in (
       record {
         now = agree c inner among (Directive place is_inner ConditionalWord.Ifdef first others ∷ texts) (refl, fronts);
-        given = none_heard
-            is_quiet;
+        given = none_heard is_quiet;
       },
       record {
         now = agree c inner among (Directive place is_inner ConditionalWord.Ifndef first others ∷ texts) (refl, fronts);
-        given = none_heard
-            is_quiet;
+        given = none_heard is_quiet;
       },
     )
 named_same is_quiet o k bytes at is_class place is_inner first c inner among texts fronts =
@@ -248,8 +245,7 @@ tokens-append (x ∷ others) a = ap (λ tokens. x.token ∷ tokens) (tokens-appe
 pub condition_more : (first : SourceToken) (others : List Asked) (a : Asked) (k : Condition) → condition_of first others ≡ Some k
     → condition_of first (others ++ a ∷ [])
     ≡ (if fits grammar known (atom_of a.token) k.stack then Some (condition_took a.token k) else None)
-condition_more first others a k is =
-    ap (λ tokens. condition_read (first ∷ tokens) condition_begun) (tokens-append others a)
+condition_more first others a k is = ap (λ tokens. condition_read (first ∷ tokens) condition_begun) (tokens-append others a)
     ∙ read_more (first ∷ tokens_in others) a.token condition_begun k is
 
 -- a condition that is whole opens a conditional, with the same result
@@ -288,10 +284,7 @@ went_same true wanted site o t place is_inner first others k c inner among texts
     decided_same site.is_quiet wanted o t place is_inner first others k c' inner among texts fronts is
 went_same false wanted site o t place is_inner first others k c inner among texts fronts is =
     let c' = saying site.is_quiet (too_much site.longest t k) (tokens_counted site.is_quiet k c) in
-    record {
-      now = asked_agree place is_inner wanted first others k c' inner among texts fronts is;
-      given = none_heard site.is_quiet;
-    }
+    record { now = asked_agree place is_inner wanted first others k c' inner among texts fronts is; given = none_heard site.is_quiet }
 
 condition_offered : (fit wanted : Bool) (site : Site) (o : Out) (t : SourceToken) (place : Place) (is_inner : Bool) (first : SourceToken)
     (others : List Asked) (k : Condition) (c : Conditions) (inner among : List Conditional) (texts : List Text) → AreFronts texts
@@ -443,8 +436,7 @@ offered_by : (is_hash is_front : Bool) (site : Site) (o : Out) (t : SourceToken)
     else offered_in_judged (pendings texts) is_front site o t (reading c inner among texts))
     (if is_hash then giving (held is_front t.place (staying inner among texts)) []
     else offered_in texts is_front c.declared o t (staying inner among texts))
-offered_by true is_front site o t c inner among texts fronts =
-    held_same site.is_quiet is_front t t.place c inner among texts fronts
+offered_by true is_front site o t c inner among texts fronts = held_same site.is_quiet is_front t t.place c inner among texts fronts
 offered_by false is_front site o t c inner among texts fronts = plain_same is_front site o t c inner among texts fronts
 
 pub offered_same : (is_front : Bool) (site : Site) (o : Out) (t : SourceToken) (c : Conditions) (inner among : List Conditional)

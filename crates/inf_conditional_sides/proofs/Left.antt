@@ -35,8 +35,7 @@ one_left (y ∷ inside) around is_inner x = ap (λ b. y.stays && b) (one_left in
 -- At the end of a file the sides inside of one that was left out belong to no conditionals of the file.
 pub left_at_end : (inside around : List Side) (is_inner : Bool) (x : Conditional) → all_stay around ≡ true
     → at_end (inside ++ side_of is_inner false x ∷ around) ≡ side_of is_inner true x ∷ around
-left_at_end [] around is_inner x stay =
-    ap (λ b. if b then side_of is_inner true x ∷ around else at_end around) stay
+left_at_end [] around is_inner x stay = ap (λ b. if b then side_of is_inner true x ∷ around else at_end around) stay
 left_at_end (y ∷ inside) around is_inner x stay =
     ap (λ b. if b then record y { stays = true } ∷ (inside ++ side_of is_inner false x ∷ around)
     else at_end (inside ++ side_of is_inner false x ∷ around)) (one_left inside around is_inner x)
@@ -112,8 +111,7 @@ deeper ConditionalWord.Iffalse place y inside is_inner x around levels stay are 
 first_inside : (around : List Side) (is_inner : Bool) (x : Conditional) (place : Place) → all_stay around ≡ true
     → with_inside place (side_of is_inner false x ∷ around)
     ≡ record { place = place; is_inner = is_inner; is_second = false; stays = true } ∷ side_of is_inner false x ∷ around
-first_inside around is_inner x place stay =
-    ap (λ n. if nat_lt n most_inside
+first_inside around is_inner x place stay = ap (λ n. if nat_lt n most_inside
     then record { place = place; is_inner = is_inner; is_second = false; stays = true } ∷ side_of is_inner false x ∷ around
     else side_of is_inner false x ∷ around)
     (inside_of [] around is_inner x stay)

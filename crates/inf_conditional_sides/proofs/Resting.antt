@@ -12,7 +12,7 @@ use Rattle.inf_conditionals.specs.{declared.filtered.Site.Site, declared.pending
 use Rattle.inf_conditionals.specs.{declared.pending.Pending.Pending, declared.words.ConditionalWord.ConditionalWord}
 use Rattle.inf_conditionals.specs.Condition.{Condition, condition_begun, condition_took, is_whole, verdict_of}
 use Rattle.inf_conditionals.specs.Judging.{asked, asked_first, asked_on, at_front, awaited, behind_front, begun, effected, held, kept}
-use Rattle.inf_conditionals.specs.Judging.{named, none_handed, offered, offered_to, passed, taken, unfit, went_on, asking, decided}
+use Rattle.inf_conditionals.specs.Judging.{named, none_handed, offered, offered_to, passed, unfit, went_on, asking, decided}
 use Rattle.inf_conditional_sides.specs.Rests.{AreSeated, HandsNone, IsInside, IsOutermost, IsSeated, Rests}
 use Rattle.inf_conditional_sides.proofs.Acts.{state}
 
@@ -37,18 +37,6 @@ awaiting_rests : (b : Bool) (c : Conditions) (inner among : List Conditional) (p
 awaiting_rests b c inner among pending conditions p seat seated = record {
   seated = (seat, seated);
   quiet = inr none_handed_on;
-  settled = inl refl;
-  levels = tt;
-  declared = refl;
-}
-
--- where a condition takes the token, conditionals rest
-taken_rests : (b : Bool) (c : Conditions) (inner among : List Conditional) (pending : List Pending) (conditions : List Condition)
-    (p : Pending) → IsSeated b p.awaits p.is_inner pending → AreSeated b pending
-    → Rests b c.declared (taken (state c inner among (p ∷ pending) conditions))
-taken_rests b c inner among pending conditions p seat seated = record {
-  seated = (seat, seated);
-  quiet = inr (refl, λ t. refl);
   settled = inl refl;
   levels = tt;
   declared = refl;
@@ -181,8 +169,7 @@ named_rests : (k : TokenKind) (bytes : List ℕ) (if_declared : Bool) (o : Out) 
     → AreSeated b pending → Rests b c.declared (named k bytes if_declared o p (state c inner among pending conditions))
 named_rests TokenKind.Name bytes if_declared o b c p inner among pending conditions seat seated =
     record { seated = (seat, seated); quiet = inr none_handed_on; settled = inl refl; levels = tt; declared = refl }
-named_rests k bytes if_declared o b c p inner among pending conditions seat seated =
-    unfit_rests b c inner among pending conditions
+named_rests k bytes if_declared o b c p inner among pending conditions seat seated = unfit_rests b c inner among pending conditions
 
 asked_on_rests : (wanted : Bool) (site : Site) (t : SourceToken) (k : Condition) (c : Conditions) (p : Pending)
     (inner among : List Conditional) (pending : List Pending) (conditions : List Condition) → IsInside site.is_between pending p.is_inner
@@ -207,8 +194,7 @@ asked_rests : (conditions : List Condition) (wanted : Bool) (site : Site) (o : O
     (inner among : List Conditional) (pending : List Pending) (others : List Condition) → IsInside site.is_between pending p.is_inner
     → AreSeated site.is_between pending
     → Rests site.is_between c.declared (asked conditions wanted site o t p (state c inner among pending others))
-asked_rests [] wanted site o t c p inner among pending others seat seated =
-    unfit_rests site.is_between c inner among pending others
+asked_rests [] wanted site o t c p inner among pending others seat seated = unfit_rests site.is_between c inner among pending others
 asked_rests (k ∷ conditions) wanted site o t c p inner among pending others seat seated =
     let before : Conditions = state c inner among pending conditions in
     of_both (Rests site.is_between c.declared) (fits grammar known (atom_of t) k.stack) (went_on wanted site o t (condition_took t k) p before)
@@ -245,8 +231,7 @@ awaited_rests (Awaits.End e) site o t c p inner among pending conditions seat se
 at_front_rests : (w : Option ConditionalWord) (b : Bool) (c : Conditions) (t : SourceToken) (inner among : List Conditional)
     (conditions : List Condition) → b ≡ true → Rests b c.declared (at_front w t (state c inner among [] conditions))
 at_front_rests None b c t inner among conditions front = kept_rests b c inner among conditions
-at_front_rests (Some w) b c t inner among conditions front =
-    begun_rests w b c t t.place false inner among [] conditions (front, refl) tt
+at_front_rests (Some w) b c t inner among conditions front = begun_rests w b c t t.place false inner among [] conditions (front, refl) tt
 
 held_rests : (is_front : Bool) (b : Bool) (c : Conditions) (place : Place) (inner among : List Conditional) (pending : List Pending)
     (conditions : List Condition) → (is_front ≡ true → IsOutermost b pending) → AreSeated b pending

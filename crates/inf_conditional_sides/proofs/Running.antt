@@ -91,13 +91,11 @@ goes_on (e ∷ events) c declared s g read =
     let y : Step = step e.site.is_between declared e.out e.token s in
     let same : x ≡ y = ap (λ (d : ℕ). step e.site.is_between d e.out e.token s) g.same in
     let r : Rests e.site.is_between c.declared b = tokens_rest e.site e.out e.token c g.seated g.settled g.levels in
-    let come : ComeToTheSame e.site.is_quiet e.token b x =
-    sides_are_judged.tokens e.site e.out e.token c s g.agree g.settled g.levels in
+    let come : ComeToTheSame e.site.is_quiet e.token b x = sides_are_judged.tokens e.site e.out e.token c s g.agree g.settled g.levels in
     let agree : Agree b.now y.now = subst (λ (z : Step). Agree b.now z.now) same come.now in
     let given : given_of e.token b.judged ≡ heard e.site.is_quiet y.given =
     come.given ∙ ap (λ (z : Step). heard e.site.is_quiet z.given) same in
-    let rest : Rests e.site.is_between declared b =
-    subst (λ (d : ℕ). Rests e.site.is_between d b) g.same r in
+    let rest : Rests e.site.is_between declared b = subst (λ (d : ℕ). Rests e.site.is_between d b) g.same r in
     let on : Goes events (ended_by e.ended b.now) (declared_behind e.ended declared) (sides_ended e.ended y.now) =
     goes_behind e.ended e events c declared y.now refl agree read.0 rest in
     let behind : all_judged events (ended_by e.ended b.now)
@@ -111,11 +109,10 @@ first_seated [] = tt
 first_seated (e ∷ events) = tt
 
 pub tokens_go_by_sides : TokensGoBySides
-tokens_go_by_sides events read =
-    goes_on events no_conditions 0 no_sides (record {
-      agree = sides_are_judged.start;
-      settled = refl;
-      seated = first_seated events;
-      levels = tt;
-      same = refl;
-    }) read
+tokens_go_by_sides events read = goes_on events no_conditions 0 no_sides (record {
+  agree = sides_are_judged.start;
+  settled = refl;
+  seated = first_seated events;
+  levels = tt;
+  same = refl;
+}) read

@@ -26,8 +26,7 @@ kept_same : (sign : Option Place) (site : Site) (o : Out) (t : SourceToken) (c :
     → ComeToTheSame site.is_quiet t (judged_by None sign site o t (signed c inner among texts sign))
     (kept_step sign site.is_between c.declared o t (sided (open_sides inner among) texts sign))
 kept_same None site o t c inner among [] fronts = offered_same (site.is_between && true) site o t c inner among [] fronts
-kept_same None site o t c inner among (x ∷ texts) fronts =
-    offered_same (site.is_between && false) site o t c inner among (x ∷ texts) fronts
+kept_same None site o t c inner among (x ∷ texts) fronts = offered_same (site.is_between && false) site o t c inner among (x ∷ texts) fronts
 kept_same (Some place) site o t c inner among texts fronts =
     behind_sign_same (word_of (keyword t)) site o t place c inner among texts fronts
 
@@ -204,8 +203,7 @@ none_over (y ∷ inside) around x are =
 inside_over : (is_inner : Bool) (levels : ℕ) (x : Conditional) (inner among : List Conditional) (sides : List Side)
     → StandFor (Some (side_at is_inner levels)) (x ∷ inner) among sides
     → StandFor (side_kept (Some (side_at is_inner levels))) [] among (only_between sides)
-inside_over true levels x inner among sides l =
-    ap only_between l.all
+inside_over true levels x inner among sides l = ap only_between l.all
     ∙ (all_over l.inside (side_of true false x ∷ open_sides inner among) l.are ∙ (inner_over inner (outer_sides among) ∙ outer_only among))
 inside_over false levels x inner among sides l =
     let now : only_between sides ≡ side_of false false l.x ∷ outer_sides l.others =
@@ -215,20 +213,14 @@ inside_over false levels x inner among sides l =
 
 pieces_stand : (left : Option LeftOut) (inner among : List Conditional) (sides : List Side) → StandFor left inner among sides
     → StandFor (side_kept left) [] among (only_between sides)
-pieces_stand None inner among sides stand =
-    ap only_between stand ∙ (inner_over inner (outer_sides among) ∙ outer_only among)
+pieces_stand None inner among sides stand = ap only_between stand ∙ (inner_over inner (outer_sides among) ∙ outer_only among)
 pieces_stand (Some side) [] [] sides stand = absurd stand
 pieces_stand (Some side) [] (x ∷ among) sides stand =
     let l = stand.1 in
     let around = outer_sides among in
     subst (λ b. StandFor (if b then None else Some side) [] (x ∷ among) (only_between sides)) (sym stand.0) (
       stand.0,
-      record {
-        inside = l.inside;
-        are = l.are;
-        count = l.count;
-        all = ap only_between l.all ∙ none_over l.inside around x l.are;
-      },
+      record { inside = l.inside; are = l.are; count = l.count; all = ap only_between l.all ∙ none_over l.inside around x l.are },
     )
 pieces_stand (Some side) (x ∷ inner) among sides stand = inside_over side.is_inner side.levels x inner among sides stand
 

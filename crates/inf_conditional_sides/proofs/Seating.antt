@@ -45,8 +45,7 @@ condition_signed between declared b place r = record {
     by_quiet (inl e) = inl e
     by_quiet (inr none) = inr (hands_none b.judged place none)
 
-    by_settled : (is_settled b.now ≡ true) ⊎ ((between ≡ true) × ((b.now.pending ≡ []) × HandsNone b.judged))
-        → (is_settled b.now ≡ true)
+    by_settled : (is_settled b.now ≡ true) ⊎ ((between ≡ true) × ((b.now.pending ≡ []) × HandsNone b.judged)) → (is_settled b.now ≡ true)
         ⊎ ((between ≡ true) × ((b.now.pending ≡ []) × HandsNone (record b.judged { sign = sign_handed place (Some Forwarded.Condition) })))
     by_settled (inl e) = inl e
     by_settled (inr u) = inr (u.0, (u.1.0, hands_none b.judged place u.1.1))
@@ -204,5 +203,4 @@ by_state None None site o t c inner among pending conditions seated settled few 
     (front_of site.is_between pending) seated
 
 pub tokens_rest : TokensRest
-tokens_rest site o t c seated settled few =
-    by_state c.left_out c.sign site o t c c.inner c.among c.pending c.conditions seated settled few
+tokens_rest site o t c seated settled few = by_state c.left_out c.sign site o t c c.inner c.among c.pending c.conditions seated settled few

@@ -51,11 +51,9 @@ if_none false x y first second = second
 
 effect_none : (e : Effect) (is_quiet : Bool) (p : Pending) (c : Conditions) → (effected e is_quiet p c).judged.sign ≡ None
 effect_none (Effect.Opens is_kept) is_quiet p c = refl
-effect_none Effect.Turns is_quiet p c =
-    if_none (is_second (latest c)) (unmatched is_quiet p.place c)
+effect_none Effect.Turns is_quiet p c = if_none (is_second (latest c)) (unmatched is_quiet p.place c)
     (passed (record (turned c) { left_out = Some (record { is_inner = not (is_none_open c.inner); levels = 0 }) })) refl refl
-effect_none Effect.Closes is_quiet p c =
-    if_none (is_none_open (latest c)) (unmatched is_quiet p.place c) (passed (closed c)) refl refl
+effect_none Effect.Closes is_quiet p c = if_none (is_none_open (latest c)) (unmatched is_quiet p.place c) (passed (closed c)) refl refl
 effect_none Effect.Nothing is_quiet p c = refl
 
 named_none : (k : TokenKind) (bytes : List ℕ) (if_declared : Bool) (o : Out) (p : Pending) (c : Conditions)
@@ -260,6 +258,5 @@ pub behind_sign_same : (w : Option ConditionalWord) (site : Site) (o : Out) (t :
     (inner among : List Conditional) (texts : List Text) → AreFronts texts
     → ComeToTheSame site.is_quiet t (behind_sign_judged w place site o t (record (reading c inner among texts) { sign = Some place }))
     (behind_sign w place c.declared o t (record (staying inner among texts) { sign = Some place }))
-behind_sign_same (Some w) site o t place c inner among texts fronts =
-    begun_same site.is_quiet w t place true c inner among texts fronts
+behind_sign_same (Some w) site o t place c inner among texts fronts = begun_same site.is_quiet w t place true c inner among texts fronts
 behind_sign_same None site o t place c inner among texts fronts = sign_same site o t place c inner among texts fronts

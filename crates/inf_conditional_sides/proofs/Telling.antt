@@ -93,8 +93,7 @@ begun_tells ConditionalWord.Ifndef t place is_inner c = refl
 begun_tells ConditionalWord.Ifnot t place is_inner c = refl
 begun_tells ConditionalWord.Endif t place is_inner c = refl
 
-front_tells : (w : Option ConditionalWord) (t : SourceToken) (p : Pending) (c : Conditions)
-    → telling (behind_front w t p c).now ≡ telling c
+front_tells : (w : Option ConditionalWord) (t : SourceToken) (p : Pending) (c : Conditions) → telling (behind_front w t p c).now ≡ telling c
 front_tells None t p c = refl
 front_tells (Some w) t p c = begun_tells w t p.place p.is_inner c
 
@@ -239,8 +238,7 @@ offered_told is_front site o t c inner among texts none fronts =
 
 -- the `#` of a condition
 abbrev Signed : Site → Out → SourceToken → Place → Conditions → Step → Behind → Told → Type 0
-Signed site o t place c n s hashed =
-    telling (offered false site o t s.now).now
+Signed site o t place c n s hashed = telling (offered false site o t s.now).now
     ≡ unless site.is_quiet (telling c) (token_told site.longest c.declared o t n.now.texts hashed)
 
 plain_sign : (site : Site) (o : Out) (t : SourceToken) (place : Place) (c : Conditions) (inner among : List Conditional)
@@ -410,8 +408,7 @@ ended_by_tells ConditionalWord.Ifndef c = turned_tells c.inner c
 ended_by_tells ConditionalWord.Iftrue c = turned_tells c.inner c
 ended_by_tells ConditionalWord.Iffalse c = turned_tells c.inner c
 
-passed_tells : (w : Option ConditionalWord) (t : SourceToken) (side : LeftOut) (c : Conditions)
-    → telling (passed_by w t side c) ≡ telling c
+passed_tells : (w : Option ConditionalWord) (t : SourceToken) (side : LeftOut) (c : Conditions) → telling (passed_by w t side c) ≡ telling c
 passed_tells None t side c = refl
 passed_tells (Some w) t side c =
     of_both (λ (x : Conditions). telling x ≡ telling c) ((side.levels == 0) && ends_at w (is_second (latest c)))
@@ -445,8 +442,7 @@ stays : (left : Option LeftOut) (inner among : List Conditional) (sides : List S
     → is_settled_by left inner ≡ true → Stays left sides
 stays None inner among sides stand settled = ap all_stay stand ∙ open_stay inner among
 stays (Some side) [] [] sides stand settled = absurd stand
-stays (Some side) [] (x ∷ among) sides stand settled =
-    ap all_stay stand.1.all ∙ one_left stand.1.inside (outer_sides among) false x
+stays (Some side) [] (x ∷ among) sides stand settled = ap all_stay stand.1.all ∙ one_left stand.1.inside (outer_sides among) false x
 stays (Some side) (x ∷ inner) among sides stand settled = inside_stays side.is_inner side.levels x inner among sides settled stand
 
 told_by_state : (left : Option LeftOut) (inner among : List Conditional) (site : Site) (o : Out) (t : SourceToken) (c : Conditions)

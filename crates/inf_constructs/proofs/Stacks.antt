@@ -1,12 +1,8 @@
 -- A stack, the last first.
-use Rattle.std.proofs.Common.{◌≡◌, ℕ, zero, suc, ◌-◌, ◌<◌, List, [], ◌∷◌, ◌++◌, ap, arith, reverse}
-use Rattle.std.proofs.lemmas.List.{reverse-append}
+use Rattle.std.proofs.Common.{◌≡◌, ℕ, zero, suc, ◌-◌, ◌<◌, List, ap, arith}
 use Rattle.inf_settings.specs.Bounds.{Limits}
 use Rattle.inf_output.specs.Output.{Out}
 use Rattle.inf_constructs.specs.{Constructs.all_ended, Constructs.ended, declared.constructs.Construct.Construct}
-
-pub reversed : {A : Type 0} (items : List A) (last : A) → reverse (items ++ last ∷ []) ≡ last ∷ reverse items
-reversed items last = reverse-append items (last ∷ [])
 
 -- the first of the statements that end is the innermost
 pub next_ended : (limits : Limits) (n : ℕ) (constructs : List Construct) (o : Out) → 0 < n

@@ -77,8 +77,7 @@ or_behind false p q d r e = e
 
 any_behind : (n : ℕ) (ns : List ℕ) (m : ℕ) (d : Bool) → (is_any n (ns ++ m ∷ []) || d) ≡ (is_any n ns || ((n == m) || d))
 any_behind n [] m d = first_or (n == m) d
-any_behind n (k ∷ ns) m d =
-    or_behind (n == k) (is_any n (ns ++ m ∷ [])) (is_any n ns) d ((n == m) || d) (any_behind n ns m d)
+any_behind n (k ∷ ns) m d = or_behind (n == k) (is_any n (ns ++ m ∷ [])) (is_any n ns) d ((n == m) || d) (any_behind n ns m d)
 
 turned : (b : Bool) (p q : Place) → (if b then p else q) ≡ (if same b false then q else p)
 turned true p q = refl
@@ -97,8 +96,7 @@ Jumps w xs sense label at from rest =
 group_jumps : (w : World) (limits : Limits) (x : Operand) (xs : List Operand) (sense : Bool) (label : Label) →
     Always w (group_tested limits (map simple (x ∷ xs)) sense label) (Jumps w (x ∷ xs) sense label)
 unfolding group_tested
-group_jumps w limits x xs sense label =
-    so (λ at from rest place now ns e.
+group_jumps w limits x xs sense label = so (λ at from rest place now ns e.
     let all = Simple.Variable SWITCHED ∷ map simple (x ∷ xs) in
     let there = same (is_any (now.store.variables SWITCHED) ns) sense in
     stepping w at (instruction_of Opcode.Je all None (to sense label)) from rest now (if there then at label else rest, now) place
@@ -115,12 +113,10 @@ LeadsTo w xs body at from rest =
 group_leads : (w : World) (limits : Limits) (xs : List Operand) (body : Label) →
     Always w (group_tested limits (map simple xs) true body) (LeadsTo w xs body)
 unfolding group_tested
-group_leads w limits [] body =
-    so (λ at from rest place now ns e.
+group_leads w limits [] body = so (λ at from rest place now ns e.
     subst (λ l. Comes w at from now (if is_any (now.store.variables SWITCHED) l then at body else rest) now) (same_some e)
     (moved place (here w at from now))) nothing_
-group_leads w limits (x ∷ xs) body =
-    so (λ at from rest j now ns e.
+group_leads w limits (x ∷ xs) body = so (λ at from rest j now ns e.
     moved (ap (λ b. if b then at body else rest) (same_true (is_any (now.store.variables SWITCHED) ns))) (j now ns e))
     (group_jumps w limits x xs true body)
 
@@ -133,8 +129,7 @@ Compares w f x sense label at from rest =
 range_jumps : (w : World) (limits : Limits) (op : Opcode) (f : ℕ → ℕ → Bool) → action_of w op ≡ machine.Tests (λ s. test_of_two f) →
     (x : Operand) (sense : Bool) (label : Label) →
     Always w (instruction limits op (Simple.Variable SWITCHED ∷ simple x ∷ []) None (to sense label)) (Compares w f x sense label)
-range_jumps w limits op f act x sense label =
-    so (λ at from rest place now m e.
+range_jumps w limits op f act x sense label = so (λ at from rest place now m e.
     let item : Parts = record {
       opcode = op;
       operands = map written (Simple.Variable SWITCHED ∷ simple x ∷ []);
@@ -165,8 +160,7 @@ beside_by w at from m rest next now false false c d = comes_then c d
 
 beside_tests : (w : World) (limits : Limits) (x y : Operand) (next : Label) →
     Always w (beside limits (simple x) (simple y) next) (Ranges w x y (λ b at rest. if b then rest else at next))
-beside_tests w limits x y next =
-    so (λ at from rest p now m k e f.
+beside_tests w limits x y next = so (λ at from rest p now m k e f.
     let n = now.store.variables SWITCHED in
     beside_by w at from p.0 rest next now (less n m) (less k n) (p.1 now m e) (p.2 now k f))
     (then_ (range_jumps w limits Opcode.Jl (λ a b. less a b) refl x true next)
@@ -181,8 +175,7 @@ within_by w at from m l rest beyond body now false false c d mark = comes_then c
 
 within_tests : (w : World) (limits : Limits) (x y : Operand) (body : Label) →
     Always w (within limits (simple x) (simple y) body) (Ranges w x y (λ b at rest. if b then at body else rest))
-within_tests w limits x y body =
-    labelled λ beyond. so (λ at from rest p now m k e f.
+within_tests w limits x y body = labelled λ beyond. so (λ at from rest p now m k e f.
     let n = now.store.variables SWITCHED in
     within_by w at from p.0 p.2.0 rest beyond body now (less n m) (less k n) (p.1 now m e) (p.2.1 now k f) p.2.2)
     (then_ (range_jumps w limits Opcode.Jl (λ a b. less a b) refl x true beyond)
@@ -259,19 +252,17 @@ constant_tested w limits y trees xs body next true on =
     ))
     (then_ nothing_ (subst (λ l. Always w (grouped limits l trees body next ▸ marked limits body) (Before body (AreTested w trees ys next)))
     (map-append simple xs (y ∷ [])) (on ys)))
-constant_tested w limits y trees xs body next false on =
-    so (λ at from rest p. (
-      p.2.0,
-      λ now ns c e f.
-          let n = now.store.variables SWITCHED in
-          let o = value_opened w (Leaf y) trees n now.store c f in
-          let g = opened (read w y now.store) (λ m. Some (n == m)) o.0 o.2 in
-          let k = decided w trees [] y next at p.0 rest p.2.1 now (g.0 ∷ []) o.1 (one_read w y now.store g.0 g.1) o.3 in
-          let is = first_or (n == g.0) o.1 ∙ ap (λ b. b || o.1) (same_some g.2) ∙ o.4 in
-          joined_by w at from p.0 rest body next now (is_any n ns) c p.2.0 (p.1 now ns e)
-          (moved (ap (λ b. if b then rest else at next) is) k),
-    ))
-    (then_ (group_leads w limits xs body) (on (y ∷ [])))
+constant_tested w limits y trees xs body next false on = so (λ at from rest p. (
+  p.2.0,
+  λ now ns c e f.
+      let n = now.store.variables SWITCHED in
+      let o = value_opened w (Leaf y) trees n now.store c f in
+      let g = opened (read w y now.store) (λ m. Some (n == m)) o.0 o.2 in
+      let k = decided w trees [] y next at p.0 rest p.2.1 now (g.0 ∷ []) o.1 (one_read w y now.store g.0 g.1) o.3 in
+      let is = first_or (n == g.0) o.1 ∙ ap (λ b. b || o.1) (same_some g.2) ∙ o.4 in
+      joined_by w at from p.0 rest body next now (is_any n ns) c p.2.0 (p.1 now ns e)
+      (moved (ap (λ b. if b then rest else at next) is) k),
+)) (then_ (group_leads w limits xs body) (on (y ∷ [])))
 
 -- A range ends the group that is open. The last one leads to the next case, and another one to the body.
 abbrev range_tree : Operand → Operand → Tree
@@ -297,50 +288,44 @@ last_range : (w : World) (limits : Limits) (x y : Operand) (xs : List Operand) (
     Always w (group_tested limits (map simple xs) true body
     ▸ (beside limits (simple x) (simple y) next ▸ (grouped limits [] [] body next ▸ marked limits body)))
     (Before body (Decides w (range_tree x y ∷ []) xs next))
-last_range w limits x y xs body next on =
-    so (λ at from rest p. (
-      p.2.2.0,
-      λ now ns c e f.
-          let n = now.store.variables SWITCHED in
-          let o = range_opened w x y [] n now.store c f in
-          let is = or_none (is_within o.0 o.1 n) ∙ ap (λ d. is_within o.0 o.1 n || d) (same_some o.5) ∙ o.6 in
-          let range = moved (ap (λ b. if b then p.2.0 else at next) is) (p.2.1 now o.0 o.1 o.3 o.4) in
-          joined_by w at from p.0 rest body next now (is_any n ns) c p.2.2.0 (p.1 now ns e)
-          (passes_on w at p.0 p.2.0 rest next now c (p.2.2.1 now) range),
-    ))
-    (then_ (group_leads w limits xs body) (then_ (beside_tests w limits x y next) on))
+last_range w limits x y xs body next on = so (λ at from rest p. (
+  p.2.2.0,
+  λ now ns c e f.
+      let n = now.store.variables SWITCHED in
+      let o = range_opened w x y [] n now.store c f in
+      let is = or_none (is_within o.0 o.1 n) ∙ ap (λ d. is_within o.0 o.1 n || d) (same_some o.5) ∙ o.6 in
+      let range = moved (ap (λ b. if b then p.2.0 else at next) is) (p.2.1 now o.0 o.1 o.3 o.4) in
+      joined_by w at from p.0 rest body next now (is_any n ns) c p.2.2.0 (p.1 now ns e)
+      (passes_on w at p.0 p.2.0 rest next now c (p.2.2.1 now) range),
+)) (then_ (group_leads w limits xs body) (then_ (beside_tests w limits x y next) on))
 
 other_range : (w : World) (limits : Limits) (x y : Operand) (t : Tree) (trees : List Tree) (xs : List Operand) (body next : Label) →
     Always w (grouped limits [] (t ∷ trees) body next ▸ marked limits body) (Before body (Decides w (t ∷ trees) [] next)) →
     Always w (group_tested limits (map simple xs) true body
     ▸ (within limits (simple x) (simple y) body ▸ (grouped limits [] (t ∷ trees) body next ▸ marked limits body)))
     (Before body (Decides w (range_tree x y ∷ t ∷ trees) xs next))
-other_range w limits x y t trees xs body next on =
-    so (λ at from rest p. (
-      p.2.2.0,
-      λ now ns c e f.
-          let n = now.store.variables SWITCHED in
-          let o = range_opened w x y (t ∷ trees) n now.store c f in
-          let range = joined_by w at p.0 p.2.0 rest body next now (is_within o.0 o.1 n) o.2 p.2.2.0 (p.2.1 now o.0 o.1 o.3 o.4)
-          (p.2.2.1 now [] o.2 refl o.5) in
-          joined_by w at from p.0 rest body next now (is_any n ns) c p.2.2.0 (p.1 now ns e)
-          (moved (ap (λ b. if b then rest else at next) o.6) range),
-    ))
-    (then_ (group_leads w limits xs body) (then_ (within_tests w limits x y body) on))
+other_range w limits x y t trees xs body next on = so (λ at from rest p. (
+  p.2.2.0,
+  λ now ns c e f.
+      let n = now.store.variables SWITCHED in
+      let o = range_opened w x y (t ∷ trees) n now.store c f in
+      let range = joined_by w at p.0 p.2.0 rest body next now (is_within o.0 o.1 n) o.2 p.2.2.0 (p.2.1 now o.0 o.1 o.3 o.4)
+      (p.2.2.1 now [] o.2 refl o.5) in
+      joined_by w at from p.0 rest body next now (is_any n ns) c p.2.2.0 (p.1 now ns e)
+      (moved (ap (λ b. if b then rest else at next) o.6) range),
+)) (then_ (group_leads w limits xs body) (then_ (within_tests w limits x y body) on))
 
 all_tested : (w : World) (limits : Limits) (trees : List Tree) → AreValues trees → (xs : List Operand) (body next : Label) →
     Always w (grouped limits (map simple xs) trees body next ▸ marked limits body) (Before body (AreTested w trees xs next))
 unfolding group_tested value_laid value_grouped range_tested
 all_tested w limits [] h [] body next =
     so (λ at from rest p. (p.2.1, λ now. begun (sym p.1) (mark_comes w at body p.0 rest now p.2))) (then_ nothing_ (marked_ limits body))
-all_tested w limits [] h (x ∷ xs) body next =
-    so (λ at from rest p. (
-      p.2.1,
-      λ now ns c e f.
-          let n = now.store.variables SWITCHED in
-          last_group w at from p.0 rest body next now (is_any n ns) c (p.1 now ns e) p.2 (same_some f),
-    ))
-    (then_ (group_jumps w limits x xs false next) (marked_ limits body))
+all_tested w limits [] h (x ∷ xs) body next = so (λ at from rest p. (
+  p.2.1,
+  λ now ns c e f.
+      let n = now.store.variables SWITCHED in
+      last_group w at from p.0 rest body next now (is_any n ns) c (p.1 now ns e) p.2 (same_some f),
+)) (then_ (group_jumps w limits x xs false next) (marked_ limits body))
 all_tested w limits ((Leaf y) ∷ trees) h xs body next =
     constant_tested w limits y trees xs body next (is_open (map simple xs)) (λ ys. all_tested w limits trees h.1 ys body next)
 all_tested w limits ((Two Binary.To (Leaf x) (Leaf y)) ∷ []) h xs body next =
@@ -353,8 +338,7 @@ case_tests : (w : World) (limits : Limits) (trees : List Tree) → AreValues tre
     Always w (case_tested limits trees next) (Branches false w (case_truth w false trees) false next)
 case_tests w limits [] h next =
     labelled λ body. so (λ at from rest p stack temp s b t e. none_some e) (all_tested w limits [] tt [] body next)
-case_tests w limits (t ∷ trees) h next =
-    labelled λ body. so (λ at from rest p stack temp s b u e.
+case_tests w limits (t ∷ trees) h next = labelled λ body. so (λ at from rest p stack temp s b u e.
     let o = opened (is_one_of w (t ∷ trees) (s.variables SWITCHED) s) (λ c. Some (c, s)) (b, u) e in
     let c = p.1 (state stack temp s) [] o.0 refl o.1 in (
       temp,
@@ -365,13 +349,12 @@ case_tests w limits (t ∷ trees) h next =
     (all_tested w limits (t ∷ trees) h [] body next)
 
 default_tests : (w : World) (trees : List Tree) → Always w nothing (TestsCase w (case_truth w true trees) Case.Default)
-default_tests w trees =
-    so (λ at from rest place stack temp s b t e. (
-      temp,
-      sym (ap (λ (y : Bool × Store). y.0) (same_some e)),
-      subst (λ (y : Bool × Store). Comes w at from (state stack temp s) rest (state stack temp y.1)) (same_some e)
-          (moved place (here w at from (state stack temp s))),
-    )) nothing_
+default_tests w trees = so (λ at from rest place stack temp s b t e. (
+  temp,
+  sym (ap (λ (y : Bool × Store). y.0) (same_some e)),
+  subst (λ (y : Bool × Store). Comes w at from (state stack temp s) rest (state stack temp y.1)) (same_some e)
+      (moved place (here w at from (state stack temp s))),
+)) nothing_
 
 -- A case begins behind the end of the one before it.
 abbrev exits_by : Kind → Construct → List Construct → Exits
@@ -419,8 +402,7 @@ case_enters w limits false trees h c around old had_default which before o still
       is = refl;
       breaks = ap (λ (x : Exits). x.breaks) (switch_exits c around old had_default which);
       same = sym (switch_exits c around old had_default which);
-      begins =
-          none_then w (Then E T) before handed now (none_alike before handed refl refl refl refl)
+      begins = none_then w (Then E T) before handed now (none_alike before handed refl refl refl refl)
           (lays_then w E T handed o now (then_none w E handed closed o ends still)
           (lays_code w (case_tested limits trees next) T (case_tests w limits trees h next) o));
     }
@@ -436,8 +418,7 @@ pub case_begins : (w : World) (limits : Limits) (is_default : Bool) (trees : Lis
     let e = entered limits is_default c before in
     LaysNone e.1 o →
     CaseBegins w (case_truth w is_default trees) (c ∷ around) (e.0 ∷ around) before (case_code limits (next_case (e.0 ∷ around)) trees o)
-case_begins w limits is_default trees h c around old had_default which before o still =
-    subst (λ (z : Construct × Out). LaysNone z.1 o →
+case_begins w limits is_default trees h c around old had_default which before o still = subst (λ (z : Construct × Out). LaysNone z.1 o →
     CaseBegins w (case_truth w is_default trees) (c ∷ around) (z.0 ∷ around) before (case_code limits (next_case (z.0 ∷ around)) trees o))
     (sym (entered_is limits is_default c old had_default which before))
     (case_enters w limits is_default trees h c around old had_default which before o) still

@@ -17,12 +17,11 @@ lays_then w P Q a b c x y = record {
   items = x.items ++ y.items;
   laid = laid_then x.items y.items a b c x.laid y.laid;
   names = names_then a b c x.names y.names;
-  runs =
-      λ at rest k s. subst (λ from. Then P Q at from rest) (sym (append_assoc x.items y.items rest)) (
-        y.items ++ rest,
-        x.runs at (y.items ++ rest) (supplies_before w b c y.names y.laid.fits k) (stands_front x.items y.items at rest s),
-        y.runs at rest k (stands_back x.items y.items at rest s),
-      );
+  runs = λ at rest k s. subst (λ from. Then P Q at from rest) (sym (append_assoc x.items y.items rest)) (
+    y.items ++ rest,
+    x.runs at (y.items ++ rest) (supplies_before w b c y.names y.laid.fits k) (stands_front x.items y.items at rest s),
+    y.runs at rest k (stands_back x.items y.items at rest s),
+  );
 }
 
 pub lays_so : (w : World) (P Q : Claim) (a b : Out) → ((at : Label → Place) (from to : Place) → P at from to → Q at from to) →
@@ -53,10 +52,7 @@ then_none w P a b c x y = record {
 }
 
 pub none_both : (a b c : Out) → LaysNone a b → LaysNone b c → LaysNone a c
-none_both a b c x y = record {
-  laid = laid_then [] [] a b c x.laid y.laid;
-  names = names_then a b c x.names y.names;
-}
+none_both a b c x y = record { laid = laid_then [] [] a b c x.laid y.laid; names = names_then a b c x.names y.names }
 
 -- Nothing is laid where code stays, and names stand for what they did, even if a limit is passed.
 pub none_past : (a b : Out) → b.kept ≡ a.kept → (b.past ≡ None → a.past ≡ None) → b.code ≡ a.code → NamesStay a b → LaysNone a b
@@ -100,8 +96,7 @@ kept_laid w limits P before now kept h o names fits =
       items = items_of kept;
       laid = all_laid limits (items_of kept) o;
       names = all_names limits (items_of kept) o;
-      runs =
-          λ at rest k s. h.runs at rest
+      runs = λ at rest k s. h.runs at rest
           (supplies_before w now behind (names_then now o behind names (all_names limits (items_of kept) o))
           (λ e. fits ((all_laid limits (items_of kept) o).fits e)) k) s;
     }

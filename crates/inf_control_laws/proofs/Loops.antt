@@ -121,8 +121,7 @@ found_branches : (w : World) (limits : Limits) (op : Opcode) (f : Store → ℕ 
     action_of w op ≡ machine.Finds f → IsPart false w (part m) (arg a) → (v : ℕ) (sense : Bool) (label : Label) →
     Always w (worked limits op (part m ∷ []) (Some v) (to sense label))
     (Branches false w (values.assigned w (values.aim_at v (is_own v)) (found_by w f a)).truth sense label)
-found_branches w limits op f m a act h v sense label =
-    so (λ at from rest p stack temp s b t e.
+found_branches w limits op f m a act h v sense label = so (λ at from rest p stack temp s b t e.
     let g = assigned_opened w v (is_own v) (found_by w f a) s b t e in
     let o = opened (values.values w (arg a ∷ []) s) (λ p. machine.found_one (f p.1) p.0 then λ n. answer (with_variable v) n p.1) g.1 g.2 in
     let q = opened (machine.found_one (f o.0.1) o.0.0) (λ n. answer (with_variable v) n o.0.1) g.1 o.2 in
@@ -138,8 +137,7 @@ found_branches w limits op f m a act h v sense label =
       text = [];
     } in
     let there = same (not (q.0 == 0)) sense in
-    let moves =
-    ap (λ x. acted w at x item rest l.2) act
+    let moves = ap (λ x. acted w at x item rest l.2) act
     ∙ ap (λ k. k then λ p'. machine.found_one (f p'.1.store) p'.0 then λ n. machine.branched_with (Some v) branch n at rest p'.1) l.4
     ∙ ap (λ k. k then λ n. machine.branched_with (Some v) branch n at rest ready) q.1
     ∙ goes there label at rest (given v q.0 ready)
@@ -166,16 +164,14 @@ always_holds w at place label stack temp s b t e = (
 -- Lemmas about the children of an object
 first_child : (w : World) (limits : Limits) (e t : Tree) → Covered false e → (v : ℕ) (c : Construct) →
     Always w (over_children limits e v c) (BeginsLoop w (truth_of w (first_by (Some e) v)) (holds_by w (Some e) t) c.top c.next c.end)
-first_child w limits e t h v c =
-    so (λ at from rest p. (p.0, rest, p.1, p.2, always_holds w at rest c.next))
+first_child w limits e t h v c = so (λ at from rest p. (p.0, rest, p.1, p.2, always_holds w at rest c.next))
     (then_ (found_branches w limits Opcode.GetChild w.child (meaning limits e) (sense w e) refl (part_is w limits e h) v false c.end)
     (marked_ limits c.top))
 
 -- Lemmas about all objects, from number 5 on
 first_number : (w : World) (limits : Limits) (v : ℕ) (end : Label) →
     Always w (naming limits Opcode.Store v (Simple.Known 5 ∷ []) None None) (Branches false w (truth_of w (first_by None v)) false end)
-first_number w limits v end =
-    so (λ at from rest place stack temp s b t e.
+first_number w limits v end = so (λ at from rest place stack temp s b t e.
     let g = assigned_opened w v (is_own v) (values.leaf w (Operand.Known 5)) s b t e in
     let start = state stack temp s in
     let now = state stack temp (with_variable v 5 s) in
@@ -203,8 +199,7 @@ condition_tested w limits (Two op a b) h next =
 first_object : (w : World) (limits : Limits) (t : Tree) → Covered false t → (v : ℕ) (c : Construct) →
     Always w (over_all limits (meaning limits t) v c)
     (BeginsLoop w (truth_of w (first_by None v)) (holds_by w None t) c.top c.next c.end)
-first_object w limits t h v c =
-    so (λ at from rest p. (p.0, p.2.0, p.1, p.2.1, p.2.2))
+first_object w limits t h v c = so (λ at from rest p. (p.0, p.2.0, p.1, p.2.1, p.2.2))
     (then_ (first_number w limits v c.end) (then_ (marked_ limits c.top) (condition_tested w limits t h c.next)))
 
 -- The next number is compared with the last one.
@@ -220,8 +215,7 @@ next_number : (w : World) (limits : Limits) (v : ℕ) (last : Target) (top : Lab
     (Branches false w (truth_of w (Two (Binary.Test Test.AtMost) (One (Unary.Before Direction.Up) (in_variable v))
     (Leaf (Operand.Later last))))
     true top)
-next_number w limits v last top =
-    so (λ at from rest place stack temp s b t e.
+next_number w limits v last top = so (λ at from rest place stack temp s b t e.
     let g = stepped_opened w v (is_own v) last s b t e in
     let start = state stack temp s in
     let n = values.next Direction.Up v s in
@@ -267,12 +261,10 @@ loop_laid w limits (Some e) t v c around before o h still =
         variable = v;
         is = refl;
         some = tt;
-        steps =
-            λ u. lays_code w (worked limits Opcode.GetSibling (part (meaning limits (in_variable v)) ∷ []) (Some v) (to true c.top))
+        steps = λ u. lays_code w (worked limits Opcode.GetSibling (part (meaning limits (in_variable v)) ∷ []) (Some v) (to true c.top))
             (Branches false w (truth_of w (next_by (Some e) v)) true c.top) goes_on u;
       };
-      begins =
-          none_then w P before o (over_children limits e v c o) still
+      begins = none_then w P before o (over_children limits e v c o) still
           (lays_code w (over_children limits e v c) P (first_child w limits e t h v c) o);
     }
 loop_laid w limits None t v c around before o h still =
@@ -283,12 +275,10 @@ loop_laid w limits None t v c around before o h still =
         variable = v;
         is = refl;
         some = tt;
-        steps =
-            λ u. lays_code w (naming limits Opcode.IncChk v (Simple.Later last ∷ []) None (to false c.top))
+        steps = λ u. lays_code w (naming limits Opcode.IncChk v (Simple.Later last ∷ []) None (to false c.top))
             (Branches false w (truth_of w (next_by None v)) true c.top) (next_number w limits v last c.top) u;
       };
-      begins =
-          none_then w P before o (over_all limits (meaning limits t) v c o) still
+      begins = none_then w P before o (over_all limits (meaning limits t) v c o) still
           (lays_code w (over_all limits (meaning limits t) v c) P (first_object w limits t h v c) o);
     }
 

@@ -165,8 +165,7 @@ ending_is : (limits : Limits) (c : Construct) (k : Kind) (new : Case) (z : Out) 
     (case_closed limits new c.end ▸ marked limits c.end) z ≡ ending limits c k z
 ending_is limits c (Kind.Switch old had_default) new z e =
     ap (λ n. (case_closed limits n c.end ▸ marked limits c.end) z) (sym (same_some e))
-ending_is limits c (Kind.Cases old had_default) new z e =
-    ap (λ n. (case_closed limits n c.end ▸ marked limits c.end) z) (sym (same_some e))
+ending_is limits c (Kind.Cases old had_default) new z e = ap (λ n. (case_closed limits n c.end ▸ marked limits c.end) z) (sym (same_some e))
 ending_is limits c other new z e = none_some e
 
 pub switch_closed : (limits : Limits) (c : Construct) (constructs : List Construct) (new : Case) (z : Out) →

@@ -26,8 +26,7 @@ use Rattle.inf_control_laws.proofs.{Laying.lays_code, Reaching.SameEnd, Reaching
 
 -- Nothing is done.
 pub stays_done : (w : World) (x : Exits) → Always w nothing (Runs w x (λ s. Some (Done, s)))
-stays_done w x =
-    so (λ at from to place stack temp s r t e.
+stays_done w x = so (λ at from to place stack temp s r t e.
     ends_as w x at from to (state stack temp s) stack temp Done r s t e (moved place (here w at from (state stack temp s))))
     nothing_
 
@@ -35,8 +34,7 @@ stays_done w x =
 alone_runs : (w : World) (limits : Limits) (x : Exits) (trees : List Tree) → IsCovered trees →
     Always w (alone limits trees) (Runs w x (alone_run w trees))
 alone_runs w limits x [] h = stays_done w x
-alone_runs w limits x (tree ∷ trees) h =
-    so (λ at from to g stack temp s r t e.
+alone_runs w limits x (tree ∷ trees) h = so (λ at from to g stack temp s r t e.
     let o = opened ((sense w tree).alone s) (λ u. Some (Done, u)) (r, t) e in
     let c = g stack temp s o.0 o.1 in
     ends_as w x at from to (state stack temp s) stack c.0 Done r o.0 t o.2 c.1)
@@ -46,8 +44,7 @@ alone_runs w limits x (tree ∷ trees) h =
 break_runs : (w : World) (limits : Limits) (x : Exits) (l : Option Label) → x.breaks ≡ l →
     Always w (jumped_to limits l) (Runs w x (left_run l Broke))
 break_runs w limits x None same = so (λ at from to place stack temp s r t e. none_some e) nothing_
-break_runs w limits x (Some l) same =
-    so (λ at from to place stack temp s r t e.
+break_runs w limits x (Some l) same = so (λ at from to place stack temp s r t e.
     let now = state stack temp s in
     ends_as w x at from to now stack temp Broke r s t e
     (subst (λ b. GoesTo w at from now b now) (sym same) (jump_comes w at l from to now place)))
@@ -56,8 +53,7 @@ break_runs w limits x (Some l) same =
 continue_runs : (w : World) (limits : Limits) (x : Exits) (l : Option Label) → x.continues ≡ l →
     Always w (jumped_to limits l) (Runs w x (left_run l Continued))
 continue_runs w limits x None same = so (λ at from to place stack temp s r t e. none_some e) nothing_
-continue_runs w limits x (Some l) same =
-    so (λ at from to place stack temp s r t e.
+continue_runs w limits x (Some l) same = so (λ at from to place stack temp s r t e.
     let now = state stack temp s in
     ends_as w x at from to now stack temp Continued r s t e
     (subst (λ b. GoesTo w at from now b now) (sym same) (jump_comes w at l from to now place)))
@@ -69,8 +65,7 @@ pub leaves_at : (w : World) (at : Label → Place) (from m to : Place) (item : I
 leaves_at w at from m to item start now n t c place e =
     record { item = item; rest = to; now = now; comes = moved place c; returns = e }
 
-pub fixed_runs : (w : World) (limits : Limits) (x : Exits) →
-    Always w (plain limits Opcode.Rtrue) (Runs w x (λ s. Some (Returned 1, s)))
+pub fixed_runs : (w : World) (limits : Limits) (x : Exits) → Always w (plain limits Opcode.Rtrue) (Runs w x (λ s. Some (Returned 1, s)))
     × Always w (plain limits Opcode.Rfalse) (Runs w x (λ s. Some (Returned 0, s)))
 fixed_runs w limits x = (
   so (λ at from to place stack temp s r t e.
@@ -89,8 +84,7 @@ fixed_runs w limits x = (
 operand_returned : (w : World) (limits : Limits) (x : Exits) (a : Operand) →
     Always w (instruction limits Opcode.Ret (simple a ∷ []) None None)
     (Runs w x (λ s. leaf_value w a nobody s then λ p. Some (Returned p.0, p.1)))
-operand_returned w limits x a =
-    so (λ at from to place stack temp s r t e.
+operand_returned w limits x a = so (λ at from to place stack temp s r t e.
     let now = state stack temp s in
     let o = opened (leaf_value w a nobody s) (λ p. Some (Returned p.0, p.1)) (r, t) e in
     let q = opened (read w a s) (λ n. answer nobody n s) o.0 o.1 in
@@ -117,10 +111,8 @@ leaf_returned : (w : World) (limits : Limits) (x : Exits) (a : Operand) (m : Mea
 leaf_returned w limits x (Operand.Known n) m = number_returned w limits x n (n == 1) (n == 0) refl refl
 leaf_returned w limits x (Operand.Variable v) m = operand_returned w limits x (Operand.Variable v)
 leaf_returned w limits x (Operand.Later t) m = operand_returned w limits x (Operand.Later t)
-leaf_returned w limits x (Operand.Function f) m =
-    so (λ at from to g stack temp s r t e. none_some e) (fixed_runs w limits x).1
-leaf_returned w limits x Operand.Unknown m =
-    so (λ at from to g stack temp s r t e. none_some e) (fixed_runs w limits x).1
+leaf_returned w limits x (Operand.Function f) m = so (λ at from to g stack temp s r t e. none_some e) (fixed_runs w limits x).1
+leaf_returned w limits x Operand.Unknown m = so (λ at from to g stack temp s r t e. none_some e) (fixed_runs w limits x).1
 
 -- any other tree has no operand of its own, and is returned from the stack
 pub one_operand : (limits : Limits) (op : Unary) (m : Meaning) → (code.one limits op m).operand ≡ None
@@ -150,8 +142,7 @@ return_runs w limits x [] h = (fixed_runs w limits x).0
 return_runs w limits x ((Leaf a) ∷ trees) h = leaf_returned w limits x a (meaning limits (Leaf a))
 return_runs w limits x ((One op a) ∷ trees) h =
     pushed_returned w limits x (One op a) h (meaning limits (One op a)).operand (one_operand limits op (meaning limits a))
-return_runs w limits x ((Two op a b) ∷ trees) h =
-    pushed_returned w limits x (Two op a b) h (meaning limits (Two op a b)).operand
+return_runs w limits x ((Two op a b) ∷ trees) h = pushed_returned w limits x (Two op a b) h (meaning limits (Two op a b)).operand
     (two_operand limits op (meaning limits a) (meaning limits b))
 
 pub plain_statements_run : PlainStatementsRun

@@ -97,8 +97,7 @@ premises_hold w limits context = record {
       let l = (units_run w limits context ends.place unit).loops Action.EndObjectloop refl sound c.0 v.constructs
       (quiet_run limits context loop.all inside loop.are).0 r others one h in record {
         goes = l.goes;
-        begins =
-            none_then w P inside.output unit.output looped.output reading
+        begins = none_then w P inside.output unit.output looped.output reading
             (then_none w P unit.output now.output looped.output l.begins (still now.output));
       };
   cases = λ values ends v still sound c around inner old had_default which h.

@@ -54,12 +54,9 @@ followed : (w : World) (x : Exits) (at : Label → Place) (from m to : Place) (s
 followed w x at from m to start stack left second Done u q t c k e =
     let g = k stack left u q t e in
     (g.0, reaches_behind w x at from m to start (state stack left u) (state stack g.0 t) q c g.1)
-followed w x at from m to start stack left second Broke u q t c k e =
-    ends_as w x at from to start stack left Broke q u t e c
-followed w x at from m to start stack left second Continued u q t c k e =
-    ends_as w x at from to start stack left Continued q u t e c
-followed w x at from m to start stack left second (Returned n) u q t c k e =
-    ends_as w x at from to start stack left (Returned n) q u t e c
+followed w x at from m to start stack left second Broke u q t c k e = ends_as w x at from to start stack left Broke q u t e c
+followed w x at from m to start stack left second Continued u q t c k e = ends_as w x at from to start stack left Continued q u t e c
+followed w x at from m to start stack left second (Returned n) u q t c k e = ends_as w x at from to start stack left (Returned n) q u t e c
 
 pub both_runs : (w : World) (x : Exits) (first second : Effect) (at : Label → Place) (from to : Place) →
     Then (Runs w x first) (Runs w x second) at from to → Runs w x (both_run first second) at from to

@@ -32,10 +32,8 @@ none_self o = none_alike o o refl refl refl refl
 -- lemmas about a leaf that is a name
 by_referred : (limits : Limits) (f : Option ReferFault) (name : List ℕ) (place : Place) (o : Out) →
     LaysNone o (referred_by limits f name place o)
-by_referred limits None name place o =
-    none_past o (referred_by limits None name place o) refl (λ e. e) refl (name_stays name place o)
-by_referred limits (Some fault) name place o =
-    none_past o (referred_by limits (Some fault) name place o) refl (λ e. passed e) refl
+by_referred limits None name place o = none_past o (referred_by limits None name place o) refl (λ e. e) refl (name_stays name place o)
+by_referred limits (Some fault) name place o = none_past o (referred_by limits (Some fault) name place o) refl (λ e. passed e) refl
     (names_equal o (referred_by limits (Some fault) name place o) refl)
 
 referred_none : (limits : Limits) (name : List ℕ) (place : Place) (o : Out) → LaysNone o (referred limits name place o)
@@ -60,8 +58,7 @@ alone_none limits locals tokens at o =
 -- lemmas about a leaf that is a text
 by_fitting : (limits : Limits) (b : Bool) (text : List ℕ) (o : Out) → LaysNone o (with_text_by limits b text o)
 by_fitting limits true text o = none_alike o (with_text_by limits true text o) refl refl refl refl
-by_fitting limits false text o =
-    none_past o (with_text_by limits false text o) refl (λ e. passed e) refl
+by_fitting limits false text o = none_past o (with_text_by limits false text o) refl (λ e. passed e) refl
     (names_equal o (with_text_by limits false text o) refl)
 
 text_none : (limits : Limits) (text : Option (List TextItem)) (o : Out) → LaysNone o (settled_text limits text o).0
@@ -93,8 +90,7 @@ by_seen (Some fault) key place o = none_self o
 
 by_number : (limits : Limits) (f : Option ActionFault) (routine : ℕ) (o : Out) → LaysNone o (numbered_by limits f routine o).0
 by_number limits None routine o = none_alike o (numbered_by limits None routine o).0 refl refl refl refl
-by_number limits (Some fault) routine o =
-    none_past o (numbered_by limits (Some fault) routine o).0 refl (λ e. passed e) refl
+by_number limits (Some fault) routine o = none_past o (numbered_by limits (Some fault) routine o).0 refl (λ e. passed e) refl
     (names_equal o (numbered_by limits (Some fault) routine o).0 refl)
 
 number_none : (limits : Limits) (routine : Option ℕ) (o : Out) → LaysNone o (numbered_as limits routine o).0

@@ -72,15 +72,14 @@ single w limits context turns s p v same stays l =
     let x = exits v.constructs in
     let z = (laid limits context s v).output in record {
       runs = λ how. l;
-      walks =
-          λ old known. record {
-            new = old;
-            is = ap open_case stays ∙ known;
-            same = ap exits stays;
-            walks = subst (λ k. Lays w (Walks w x old old k) v.output z) (sym same)
-                (lays_so w (Runs w x (effect turns p)) (Walks w x old old (own_walk (effect turns p))) v.output z
-                (own_walks w x old (effect turns p)) l);
-          };
+      walks = λ old known. record {
+        new = old;
+        is = ap open_case stays ∙ known;
+        same = ap exits stays;
+        walks = subst (λ k. Lays w (Walks w x old old k) v.output z) (sym same)
+            (lays_so w (Runs w x (effect turns p)) (Walks w x old old (own_walk (effect turns p))) v.output z
+            (own_walks w x old (effect turns p)) l);
+      };
     }
 
 fixed_of : {b : Bool} → (b ≡ false) ⊎ ⊥ → b ≡ false
@@ -102,14 +101,12 @@ acts_as w limits context turns (Then {b} first second) (Both p q) v e0 h =
     let x = exits v.constructs in
     let one = acts_as w limits context turns first p v e0 h.0 in
     let two = acts_as w limits context turns second q u front.none_ahead h.1 in record {
-      runs =
-          λ how.
+      runs = λ how.
           let e = fixed_of how in
           let same = stays_open b e v.constructs u.constructs front.holds in
           both_laid w x (effect turns p) (effect turns q) v.output u.output z (one.runs (inl e))
           (exits_alike w (exits u.constructs) x (effect turns q) u.output z (ap exits same) (two.runs (inl e)));
-      walks =
-          λ old known.
+      walks = λ old known.
           let a = one.walks old known in
           let c = two.walks a.new a.is in record {
             new = c.new;

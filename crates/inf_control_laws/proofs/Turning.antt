@@ -74,8 +74,7 @@ while_turns w x at from m0 m1 m2 m3 to next end holds body top test runs jump la
         (moved top.1 (jump_comes w at next m2 m3 now jump)) top.1 last.1 on o.2)
     turn false left u c f on = ends_as w x at m0 to (state stack temp s) stack left Done q u t f (moved last.1 c)
 
-pub while_runs : (w : World) (x : Exits) (next end : Label) (holds : Truth) (body : Effect) (n : ℕ) (at : Label → Place)
-    (from to : Place) →
+pub while_runs : (w : World) (x : Exits) (next end : Label) (holds : Truth) (body : Effect) (n : ℕ) (at : Label → Place) (from to : Place) →
     Then (Marks next) (Then (Branches false w holds false end) (Then (Runs w (inside end next) body) (Then (Lies (jump_to next))
     (Marks end)))) at from to → Runs w x (while_run holds body n) at from to
 while_runs w x next end holds body n at from to p stack temp s q t e =
@@ -107,8 +106,7 @@ until_turns w x at from m0 m1 m2 m3 to top next end body holds first runs joint 
         (left' : ℕ) × Reaches w x at m2 start to q (state stack left' t)
     turn true left u start c f on =
         ends_as w x at m2 to start stack left Done q u t f (comes_then c (mark_comes w at end m3 to (state stack left u) last))
-    turn false left u start c f on =
-        begun_on w x at m2 m0 to start (state stack left u) stack q t (moved first.1 c) (on left u f)
+    turn false left u start c f on = begun_on w x at m2 m0 to start (state stack left u) stack q t (moved first.1 c) (on left u f)
 
     tested : (left : ℕ) (u : Store) → (holds u then λ p. until_by (until_run body holds n) p.0 p.1) ≡ Some (q, t) →
         GoesOn w x at m0 (until_run body holds n) stack q to t →
@@ -214,8 +212,7 @@ objects_turns w x at m0 m1 m2 m3 m4 m5 to top next end holds step body first tes
         Comes w at m4 start (if same b true then at top else m5) (state stack left u) →
         (if b then objects_run holds step body n u else Some (Done, u)) ≡ Some (q, t) →
         GoesOn w x at m1 (objects_run holds step body n) stack q to t → (left' : ℕ) × Reaches w x at m4 start to q (state stack left' t)
-    found true left u start c f on =
-        begun_on w x at m4 m1 to start (state stack left u) stack q t (moved first.1 c) (on left u f)
+    found true left u start c f on = begun_on w x at m4 m1 to start (state stack left u) stack q t (moved first.1 c) (on left u f)
     found false left u start c f on =
         ends_as w x at m4 to start stack left Done q u t f (comes_then c (mark_comes w at end m5 to (state stack left u) last))
 
@@ -264,8 +261,6 @@ objects_runs w x top next end begins holds step body n at from to p stack temp s
         (if z then objects_run holds step body n u else Some (Done, u)) ≡ Some (q, t) → Marks top at m m1 → Marks end at m5 to →
         GoesOn w x at m1 (objects_run holds step body n) stack q to t →
         (left' : ℕ) × Reaches w x at from (state stack temp s) to q (state stack left' t)
-    begins_by m m1 m5 true left u c f first last on =
-        begun_on w x at from m1 to (state stack temp s) (state stack left u) stack q t
+    begins_by m m1 m5 true left u c f first last on = begun_on w x at from m1 to (state stack temp s) (state stack left u) stack q t
         (comes_then c (mark_comes w at top m m1 (state stack left u) first)) (on left u f)
-    begins_by m m1 m5 false left u c f first last on =
-        ends_as w x at from to (state stack temp s) stack left Done q u t f (moved last.1 c)
+    begins_by m m1 m5 false left u c f first last on = ends_as w x at from to (state stack temp s) stack left Done q u t f (moved last.1 c)

@@ -191,8 +191,7 @@ step_kept w limits t h trees c around before o settles absent =
         };
         names = record { stays = λ v y e. x.names.stays v y (settles.names.stays v y e) };
       };
-      runs = λ at rest k s.
-          subst (λ l. GivesNothing w (sense w t).alone at (l ++ rest) rest) (sym is)
+      runs = λ at rest k s. subst (λ l. GivesNothing w (sense w t).alone at (l ++ rest) rest) (sym is)
           (x.runs at rest (record { fits = k.fits; numbers = k.numbers; contracts = k.contracts }) (subst (λ l. Stands at l rest) is s));
     }
 
@@ -329,20 +328,16 @@ units_run w limits context place v = record {
   values = λ a is sound t trees one h.
       by_role w limits context place v (GivesNothing w (kept_value w t)) (role_of a) (Role.End Ending.Switched) is
       (value_ends w limits context place v sound t trees one h);
-  steps = λ a is sound kept c around inner t trees one h.
-      subst (λ z. let now = played limits context place z v in
+  steps = λ a is sound kept c around inner t trees one h. subst (λ z. let now = played limits context place z v in
       KeepsApart w (GivesNothing w (sense w t).alone) v.output now.output (step_of now.constructs)) (sym is)
       (step_ends w limits context place v sound kept c around inner t trees one h);
-  statements = λ a is sound plainly h.
-      by_role w limits context place v (Runs w (exits v.constructs) (plain_run w (exits v.constructs)
+  statements = λ a is sound plainly h. by_role w limits context place v (Runs w (exits v.constructs) (plain_run w (exits v.constructs)
       (trees_of limits context (Part.Statement (statement_at v)) v) (statement_at v))) (role_of a) (Role.End Ending.Statement) is
       (statement_ends w limits context place v sound plainly h);
-  loops = λ a is sound c around inner r others one h.
-      subst (λ z. let now = played limits context place z v in
+  loops = λ a is sound c around inner r others one h. subst (λ z. let now = played limits context place z v in
       LoopBegins w limits (children_of r.tree) r.tree (loop_variable r) c v.output now.constructs now.output) (sym is)
       (loop_ends w limits context place v sound c around inner r others one h);
-  cases = λ a is sound c around inner old had_default which h.
-      subst (λ z. let now = played limits context place z v in
+  cases = λ a is sound c around inner old had_default which h. subst (λ z. let now = played limits context place z v in
       CaseBegins w (case_truth w (is_default (ready_for limits Part.Case v).unit.items) (trees_of limits context Part.Case v)) v.constructs
       now.constructs v.output now.output) (sym is)
       (case_ends w limits context place v sound c around inner old had_default which h);

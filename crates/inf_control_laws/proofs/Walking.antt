@@ -137,10 +137,8 @@ tests_begin w x at q m to holds (Case.Values next) h there stack temp s z r t e 
         Comes w at q (state stack temp s) (if same b false then at next else to) (state stack left u) →
         case_by b u ≡ Some (z, r, t) →
         (left' : ℕ) × Walked w x at q (state stack temp s) to (Case.Values next) z r (state stack left' t)
-    lead true left u c f =
-        walked_as w x at q to (Case.Values next) (state stack temp s) stack left Within z Done r u t f (to, refl, c)
-    lead false left u c f =
-        walked_as w x at q to (Case.Values next) (state stack temp s) stack left Seeks z Done r u t f (at next, refl, c)
+    lead true left u c f = walked_as w x at q to (Case.Values next) (state stack temp s) stack left Within z Done r u t f (to, refl, c)
+    lead false left u c f = walked_as w x at q to (Case.Values next) (state stack temp s) stack left Seeks z Done r u t f (at next, refl, c)
 tests_begin w x at q m to holds Case.Default h there stack temp s z r t e =
     let o = opened (holds s) (λ p. case_by p.0 p.1) (z, r, t) e in
     let g = h stack temp s o.0.0 o.0.1 o.1 in

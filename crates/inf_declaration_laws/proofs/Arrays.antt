@@ -43,10 +43,8 @@ module _ (limits : Limits) (context : Context) where
       let v = record (one_more w) { output = o } in record {
         output = story_added limits None a o;
         is = ap (λ b. cond b (record v {
-          lost = lost_added
-              (added_fault unbounded a v.lost) a v.lost;
-        })
-            (record v { output = story_added limits (added_fault limits a o.tables.arrays) a o })) lost
+          lost = lost_added (added_fault unbounded a v.lost) a v.lost;
+        }) (record v { output = story_added limits (added_fault limits a o.tables.arrays) a o })) lost
             ∙ ap (λ f. record v { output = story_added limits f a o }) (ap (added_fault limits a) stays ∙ fits);
         arrays = ap (with_entries (values_in a)) stays;
       }
@@ -62,8 +60,7 @@ module _ (limits : Limits) (context : Context) where
   value_is : (b : Bool) (a : Adding) (w : Compilation) (v : Value) → w.listing.is_lost ≡ false → bare_text b w ≡ None
       → value_of limits context w ≡ v → adding b v ≡ a → added_fault limits a w.output.tables.arrays ≡ None
       → Adds a w (entry_added limits context b (one_more w))
-  value_is b a w v lost bare valued adds fits =
-      subst (λ u. Adds a w u) (sym (ap (λ t. entry_added_by limits context t b (one_more w)) bare
+  value_is b a w v lost bare valued adds fits = subst (λ u. Adds a w u) (sym (ap (λ t. entry_added_by limits context t b (one_more w)) bare
       ∙ ap (λ x. added limits (adding b x) (record (one_more w) { output = settled_output w })) valued
       ∙ ap (λ x. added limits x (record (one_more w) { output = settled_output w })) adds))
       (added_is a w (settled_output w) lost (settled_arrays w) fits)

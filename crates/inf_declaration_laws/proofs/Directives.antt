@@ -50,8 +50,7 @@ still : {names : Names} {before : List Directive} {o p : Out} → Agrees names b
 still a k = record { names_are = λ t. k.names t ∙ a.names_are t; counts_are = k.counts ∙ a.counts_are }
 
 same_name : (t a b : Text) (m k : Meaning) (f g : Names) → a ≡ b → m ≡ k → f t ≡ g t → with_name a m f t ≡ with_name b k g t
-same_name t a b m k f g e h i =
-    ap (λ n. with_name n m f t) e ∙ ap (λ x. with_name b x f t) h
+same_name t a b m k f g e h i = ap (λ n. with_name n m f t) e ∙ ap (λ x. with_name b x f t) h
     ∙ ap (λ x. cond (str_eq_ignore_ascii_case t b) (Some k) x) i
 
 -- a name is declared with the meaning of the description, and nothing of a kind that counts is added
@@ -65,12 +64,6 @@ declares {names = names} {o = o} name a m k agrees d e h = record {
 -- what is declared, and then what keeps that
 declares_then : {name : Text} {m : Meaning} {o p q : Out} → Declares name m o p → Keeps p q → Declares name m o q
 declares_then d k = record { names = λ t. k.names t ∙ d.names t; counts = k.counts ∙ d.counts }
-
-keeps_then : {name : Text} {m : Meaning} {o p q : Out} → Keeps o p → Declares name m p q → Declares name m o q
-keeps_then {name = name} {m = m} {o = o} {p = p} k d = record {
-  names = λ t. d.names t ∙ same_name t name name m m (names_of p) (names_of o) refl refl (k.names t);
-  counts = d.counts ∙ k.counts;
-}
 
 -- Lemmas about findings
 
@@ -89,16 +82,14 @@ none_many true e = absurd (cc e)
 none_many false e = refl
 
 few_of : (order : ℕ) (again : Option Again) (late many : Bool) → declared_finding order again late many ≡ None → many ≡ false
-few_of order again late many e =
-    none_many many (least_none (late_finding order late) (many_finding many)
+few_of order again late many e = none_many many (least_none (late_finding order late) (many_finding many)
     (least_none (again_finding order again) (least_of_both (late_finding order late) (many_finding many)) e).1).1
 
 few_known : (n : Name) (order : ℕ) (many : Bool) (w : Compilation) → (name_known n order many w).finding ≡ None → many ≡ false
 few_known n order many w e = few_of order _ _ many e
 
 few_valued : (n : Name) (order : ℕ) (many : Bool) (w : Compilation) → (valued n order many w).finding ≡ None → many ≡ false
-few_valued n order many w e =
-    few_known n order many w (least_none (name_known n order many w).finding (finding_at 0 Wanted.Constant w) e).0
+few_valued n order many w e = few_known n order many w (least_none (name_known n order many w).finding (finding_at 0 Wanted.Constant w) e).0
 
 below : (most n : ℕ) → nat_le most n ≡ false → n < most
 below most n few = grind (arith, nat_tests)
@@ -118,8 +109,7 @@ module _ (limits : Limits) (context : Context) (first : Place) where
   attribute_step n others w name names before a i =
       let few = few_known n (name_order w.unit.tokens) (has_most_attributes w.output) w i.untold in
       let here : w.output.tables.world.attributes ≡ count is_attribute before = ap (λ c. c.attributes) a.counts_are in
-      let number : attribute_number w.output ≡ count is_attribute before =
-      few_attributes w.output.tables.world.attributes few ∙ here in
+      let number : attribute_number w.output ≡ count is_attribute before = few_attributes w.output.tables.world.attributes few ∙ here in
       let p = name_declared limits n (Meaning.Attribute (attribute_number w.output)) w.output in
       let d = declared_told limits n.bytes n.place (Meaning.Attribute (attribute_number w.output)) w.output i.free in
       let b = declares name n.bytes (Meaning.Attribute (attribute_number w.output)) (attribute_of before) a d i.spelled
@@ -177,13 +167,12 @@ module _ (limits : Limits) (context : Context) (first : Place) where
       let one : count is_property before + 1 ≡ count is_property (Property name additive ∷ before) = omega arith in
       subst (λ o. Agrees (with_name name (property_of additive before) names) (Property name additive ∷ before) o) (sym ends) (record {
         names_are = b.names_are;
-        counts_are =
-            ap (λ k. record {
-              attributes = p.tables.world.attributes;
-              properties = k;
-              globals = length p.tables.globals;
-              fakes = p.tables.actions.fakes;
-            }) (length_push p.tables.world.declared _)
+        counts_are = ap (λ k. record {
+          attributes = p.tables.world.attributes;
+          properties = k;
+          globals = length p.tables.globals;
+          fakes = p.tables.actions.fakes;
+        }) (length_push p.tables.world.declared _)
             ∙ ap (λ c. record { attributes = c.attributes; properties = c.properties + 1; globals = c.globals; fakes = c.fakes })
             b.counts_are
             ∙ ap (λ k. record {
@@ -215,13 +204,12 @@ module _ (limits : Limits) (context : Context) (first : Place) where
       let one : count is_global before + 1 ≡ count is_global (Global name ∷ before) = omega arith in
       subst (λ o. Agrees (with_name name (variable_of before) names) (Global name ∷ before) o) (sym ends) (record {
         names_are = b.names_are;
-        counts_are =
-            ap (λ k. record {
-              attributes = p.tables.world.attributes;
-              properties = length p.tables.world.declared;
-              globals = k;
-              fakes = p.tables.actions.fakes;
-            }) (length_push p.tables.globals v)
+        counts_are = ap (λ k. record {
+          attributes = p.tables.world.attributes;
+          properties = length p.tables.world.declared;
+          globals = k;
+          fakes = p.tables.actions.fakes;
+        }) (length_push p.tables.globals v)
             ∙ ap (λ c. record { attributes = c.attributes; properties = c.properties; globals = c.globals + 1; fakes = c.fakes })
             b.counts_are
             ∙ ap (λ k. record {
@@ -241,8 +229,7 @@ module _ (limits : Limits) (context : Context) (first : Place) where
   fake_step n others w name names before a i =
       let o = w.output in
       let here : o.tables.actions.fakes ≡ count is_fake before % 65536 = ap (λ c. c.fakes) a.counts_are in
-      let number : next_fake o ≡ (4096 + count is_fake before) % 65536 =
-      ap (λ k. (4096 + k) % 65536) here ∙ omega arith in
+      let number : next_fake o ≡ (4096 + count is_fake before) % 65536 = ap (λ k. (4096 + k) % 65536) here ∙ omega arith in
       let m = Meaning.FakeAction (next_fake o) in
       let d = declared_told limits (key_of n.bytes) n.place m (one_fake o) i.free in
       let key : key_of n.bytes ≡ codes "##" ++ name = ap key_of i.spelled in
@@ -250,23 +237,19 @@ module _ (limits : Limits) (context : Context) (first : Place) where
       ap (λ f. (faked_by limits f (key_of n.bytes) n.place o).0) i.untold in
       let one : (count is_fake before % 65536 + 1) % 65536 ≡ count is_fake (FakeAction name ∷ before) % 65536 = omega arith in
       subst (λ o. Agrees (with_name (codes "##" ++ name) (fake_of before) names) (FakeAction name ∷ before) o) (sym ends) (record {
-        names_are = λ t.
-            d.names t ∙ same_name t (key_of n.bytes) (codes "##" ++ name) m (fake_of before) (names_of o) names key
+        names_are = λ t. d.names t ∙ same_name t (key_of n.bytes) (codes "##" ++ name) m (fake_of before) (names_of o) names key
             (ap Meaning.FakeAction number) (a.names_are t);
-        counts_are =
-            d.counts
-            ∙ ap (λ c. record {
-              attributes = c.attributes;
-              properties = c.properties;
-              globals = c.globals;
-              fakes = (c.fakes + 1) % 65536;
-            }) a.counts_are
-            ∙ ap (λ k. record {
-              attributes = count is_attribute before;
-              properties = count is_property before;
-              globals = count is_global before;
-              fakes = k;
-            }) one;
+        counts_are = d.counts ∙ ap (λ c. record {
+          attributes = c.attributes;
+          properties = c.properties;
+          globals = c.globals;
+          fakes = (c.fakes + 1) % 65536;
+        }) a.counts_are ∙ ap (λ k. record {
+          attributes = count is_attribute before;
+          properties = count is_property before;
+          globals = count is_global before;
+          fakes = k;
+        }) one;
       })
 
   -- Lemmas about other names
@@ -354,8 +337,7 @@ module _ (limits : Limits) (context : Context) (first : Place) where
 
   constant_declares : (n : Name) (w : Compilation) (m : Meaning) → IsFree limits n.bytes w.output
       → Declares n.bytes m w.output (constant_with limits context first n (Some m) None w).output
-  constant_declares n w m free =
-      declares_then (declared_told limits n.bytes n.place m w.output free)
+  constant_declares n w m free = declares_then (declared_told limits n.bytes n.place m w.output free)
       (added_keeps_by _ (record w { output = name_declared limits n m w.output }))
 
   constant_is : (n : Name) (others : List Name) (w : Compilation) (name : Text) (m : Meaning) → IsConstant limits n w name m
@@ -382,8 +364,7 @@ module _ (limits : Limits) (context : Context) (first : Place) where
   -- whether the name has a meaning, by the description
   known_is : (n : Name) (w : Compilation) (name : Text) (names : Names) (before : List Directive) → Agrees names before w.output
       → n.bytes ≡ name → is_some (names name) ≡ is_declared (found_in n.bytes w.output.names)
-  known_is n w name names before a e =
-      ap is_some (sym (a.names_are name)) ∙ known_by (found_in name w.output.names)
+  known_is n w name names before a e = ap is_some (sym (a.names_are name)) ∙ known_by (found_in name w.output.names)
       ∙ ap (λ t. is_declared (found_in t w.output.names)) (sym e)
 
   unless_step : (n : Name) (w : Compilation) (name : Text) (m : Meaning) (names : Names) (before : List Directive) (p q : Out) (b : Bool)
@@ -482,8 +463,7 @@ module _ (limits : Limits) (context : Context) (first : Place) where
   step (Stub name m) spelled w names before o a c s =
       with_first (λ l. Agrees (unless_known name m names) (Stub name m ∷ before) (stub limits context first l w).output) _ spelled s
       (λ n others i. stub_step n others w name m names before (still a c) i)
-  step (Other name m) spelled w names before o a c s =
-      recount before (Other name m) refl (declares name name m m a c refl refl)
+  step (Other name m) spelled w names before o a c s = recount before (Other name m) refl (declares name name m m a c refl refl)
 
 all_agree : (limits : Limits) (context : Context) (o : Out) (reads : List Read) → counts_of o ≡ counted [] → Follow limits context o reads
     → Agrees (names_behind (names_of o) (directives reads)) (directives reads) (behind limits context o reads)

@@ -74,14 +74,12 @@ module _ (limits : Limits) where
   appeared_keeps_by (Some fault) key place o = same o
 
   routine_keeps : (name : List ℕ) (place : Place) (o : Out) → Keeps o (routine_used limits name place o).0
-  routine_keeps name place o =
-      then_keeps (referred_keeps name place o limits)
+  routine_keeps name place o = then_keeps (referred_keeps name place o limits)
       (numbered_as_keeps (routine_of (referred_as limits name o)) (referred limits name place o))
 
   action_keeps_by : (fake : Option ℕ) (name : List ℕ) (place : Place) (o : Out) → Keeps o (action_by limits fake name place o).0
   action_keeps_by (Some fake) name place o = same o
-  action_keeps_by None name place o =
-      then_keeps (appeared_keeps_by (declare_fault unbounded (key_of name) o.seen) (key_of name) place o)
+  action_keeps_by None name place o = then_keeps (appeared_keeps_by (declare_fault unbounded (key_of name) o.seen) (key_of name) place o)
       (routine_keeps (routine_name name) place (appeared (key_of name) place o))
 
   action_keeps : (name : Option Name) (o : Out) → Keeps o (settled_action limits name o).0
@@ -112,8 +110,7 @@ module _ (limits : Limits) where
 
     pub settled_keeps : (leaves : List Leaf) (s : Settled) → Keeps s.out (settled limits set locals tokens leaves s).out
     settled_keeps [] s = same s.out
-    settled_keeps (l ∷ leaves) s =
-        then_keeps (leaf_keeps l s.out)
+    settled_keeps (l ∷ leaves) s = then_keeps (leaf_keeps l s.out)
         (settled_keeps leaves (with_settled (settled_leaf limits set locals tokens l s.out) s.operands))
 
     added_keeps : (l : Leaf) (o : Out) → Keeps o (one_added limits set tokens l o)
@@ -145,8 +142,7 @@ module _ (limits : Limits) where
   labels_keep (Some rest) o = same o
 
   closed_keeps : (how : RoutineKind) (o : Out) → Keeps o (closed limits how o)
-  closed_keeps how o =
-      then_keeps (closed_keeps_by (fault_closed limits how o.code) how o)
+  closed_keeps how o = then_keeps (closed_keeps_by (fault_closed limits how o.code) how o)
       (labels_keep (past_of limits o).labels (code_closed limits how o))
 
   pub routine_laid : (locals : ℕ) (how : RoutineKind) (o : Out) → Keeps o (closed limits how (opened limits locals false o))

@@ -38,12 +38,10 @@ standing_put key new s (n ∷ names) = put_by (bytes_eq new n.name) refl (standi
     put_by : (t : Bool) → bytes_eq new n.name ≡ t → standing_of key (put new s names) ≡ cond (bytes_eq key new) (Some s) (standing_of key names)
         → standing_of key (cond t (record { name = n.name; standing = s } ∷ names) (n ∷ put new s names))
         ≡ cond (bytes_eq key new) (Some s) (cond (bytes_eq key n.name) (Some n.standing) (standing_of key names))
-    put_by true e later =
-        twice (bytes_eq key n.name) (Some s) (Some n.standing) (standing_of key names)
+    put_by true e later = twice (bytes_eq key n.name) (Some s) (Some n.standing) (standing_of key names)
         ∙ ap (λ k. cond (bytes_eq key k) (Some s) (cond (bytes_eq key n.name) (Some n.standing) (standing_of key names)))
         (sym (same_key new n.name e))
-    put_by false e later =
-        ap (λ o. cond (bytes_eq key n.name) (Some n.standing) o) later
+    put_by false e later = ap (λ o. cond (bytes_eq key n.name) (Some n.standing) o) later
         ∙ turned (bytes_eq key n.name) (bytes_eq key new) (Some n.standing) (Some s) (standing_of key names)
         (differ key new n.name e)
 
@@ -61,8 +59,7 @@ is_declared limits name place m o free =
     let is : declared limits name place m o ≡ record o { names = with_declared name place m o.names } =
     ap (λ f. declared_by limits f name place m o) free in
     subst (λ p. Declares name m o p) (sym is) (record {
-      names = λ t.
-          ap (λ s. meaning_told (found_as (system_meaning o.names.is_debugging t) s))
+      names = λ t. ap (λ s. meaning_told (found_as (system_meaning o.names.is_debugging t) s))
           (standing_put (folded t) (folded name) (IsDeclared o.names.declared m place) o.names.names)
           ∙ told_declared (system_meaning o.names.is_debugging t) (standing_of (folded t) o.names.names) o.names.declared m place
           (bytes_eq (folded t) (folded name));
@@ -97,8 +94,7 @@ system_same debugging a b e = ap (λ k. meaning_if debugging (find (λ known. by
 module _ (name : List ℕ) (place : Place) (o : Out) where
   -- a name that is the same in any case means the same
   same_told : (t : List ℕ) → folded t ≡ folded name → names_of o t ≡ names_of o name
-  same_told t e =
-      ap (λ m. meaning_told (found_as m (standing_of (folded t) o.names.names))) (system_same o.names.is_debugging t name e)
+  same_told t e = ap (λ m. meaning_told (found_as m (standing_of (folded t) o.names.names))) (system_same o.names.is_debugging t name e)
       ∙ ap (λ k. meaning_told (found_as (system_meaning o.names.is_debugging name) (standing_of k o.names.names))) e
 
   used_told : (t : List ℕ) → found_in name o.names ≡ Found.Unknown → (b : Bool) → bytes_eq (folded t) (folded name) ≡ b
@@ -110,8 +106,7 @@ module _ (name : List ℕ) (place : Place) (o : Out) where
 
   used_by : (f : Found Place) → found_in name o.names ≡ f → (t : List ℕ)
       → names_of (record o { names = with_used_by f name place o.names }) t ≡ names_of o t
-  used_by Found.Unknown e t =
-      ap (λ s. meaning_told (found_as (system_meaning o.names.is_debugging t) s))
+  used_by Found.Unknown e t = ap (λ s. meaning_told (found_as (system_meaning o.names.is_debugging t) s))
       (standing_put (folded t) (folded name) (IsUsed name place) o.names.names)
       ∙ used_told t e (bytes_eq (folded t) (folded name)) refl
   used_by other e t = refl

@@ -16,8 +16,7 @@ no_text : (alone : Bool) (w : Compilation) → (length w.unit.gathering.symbols 
 no_text true w several = ap (λ (b : Bool). cond b (bare_leaf w.unit.gathering.leaves) None) several
 no_text false w several = refl
 
-pub several_found : (limits : Limits) (context : Context) (alone : Bool) (w : Compilation)
-    → (length w.unit.gathering.symbols == 1) ≡ false
+pub several_found : (limits : Limits) (context : Context) (alone : Bool) (w : Compilation) → (length w.unit.gathering.symbols == 1) ≡ false
     → least_of_both (finding_at 0 Wanted.Constant w) (added_finding limits (adding alone (looked_value w)) w)
     ≡ entry_finding limits context alone w
 several_found limits context alone w several =
@@ -25,8 +24,7 @@ several_found limits context alone w several =
     (no_text alone w several))
 
 -- The finding about an entry of several leaves does not depend on whether there were entries before it.
-pub more_found : (limits : Limits) (context : Context) (alone : Bool) (w : Compilation)
-    → (length w.unit.gathering.symbols == 1) ≡ false
+pub more_found : (limits : Limits) (context : Context) (alone : Bool) (w : Compilation) → (length w.unit.gathering.symbols == 1) ≡ false
     → entry_finding limits context alone (one_more w) ≡ entry_finding limits context alone w
 more_found limits context alone w several =
     sym (several_found limits context alone (one_more w) several) ∙ several_found limits context alone w several
@@ -43,7 +41,6 @@ pub entry_stays : (limits : Limits) (context : Context) (alone : Bool) (w : Comp
     → (length w.unit.gathering.symbols == 1) ≡ false → v ≡ looked_value w
     → LeavesStay w.locals w.output w.unit.tokens w.unit.gathering.leaves (operands_of w)
     → added limits (adding alone v) w ≡ entry_added limits context alone w
-entry_stays limits context alone w v several e stay =
-    ap (λ (x : Value). added limits (adding alone x) w) e
+entry_stays limits context alone w v several e stay = ap (λ (x : Value). added limits (adding alone x) w) e
     ∙ sym (added_stays limits context alone w stay)
     ∙ sym (ap (λ (text : Option ℕ). entry_added_by limits context text alone w) (no_text alone w several))

@@ -26,14 +26,6 @@ added_to keys name = by (list_any (string_eq name) keys) (list_any (bytes_eq (st
     by true false e = cc
     by false true e = cc
 
--- a name that is there is not added
-pub with_known : (name : List ℕ) (names : List (List ℕ)) → list_any (bytes_eq name) names ≡ true → names ≡ with_name name names
-with_known name names is = by (list_any (bytes_eq name) names) is
-  where
-    by : (b : Bool) → b ≡ true → names ≡ cond b names (names ++ name ∷ [])
-    by true e = refl
-    by false e = cc
-
 pub of_ok : {T E : Type 0} (r : Result T E) (P : Type 0) → IsOk r → OnOk r P → P
 of_ok (Ok x) P is p = p
 of_ok (Err e) P is p = cc

@@ -37,11 +37,9 @@ known_with total text word other (e ∷ words) = go (order text e.0) refl (known
       (e ∷ insert_entry order words text word))
       ≡ cond (is_eq (order other text)) (Some word) (cond (is_eq (order other e.0)) (Some e.1) rest)
   go Less h below = refl
-  go Equal h below =
-      once (is_eq (order other e.0)) (Some word) (Some e.1) rest
+  go Equal h below = once (is_eq (order other e.0)) (Some word) (Some e.1) rest
       ∙ ap (λ r. cond (is_eq r) (Some word) (cond (is_eq (order other e.0)) (Some e.1) rest)) (sym (alike_right total text e.0 other h))
-  go Greater h below =
-      ap (λ l. cond (is_eq (order other e.0)) (Some e.1) l) below
+  go Greater h below = ap (λ l. cond (is_eq (order other e.0)) (Some e.1) l) below
       ∙ swapped (is_eq (order other e.0)) (is_eq (order other text)) (Some e.1) (Some word) rest
       (λ a b. let same : order other e.0 ≡ order text e.0 = total.congr other text e.0 (is_equal (order other text) b) in
       absurd (cc (sym (is_equal (order other e.0) a) ∙ same ∙ h)))
@@ -57,7 +55,6 @@ said_with text other how is_plural words false h = refl
 pub known_by_all : IsTotalOrder order → (uses : List UseOf) (text : Text) (words : Words)
     → word_of text (with_uses uses words).list ≡ said_of text uses (word_of text words.list)
 known_by_all total [] text words = refl
-known_by_all total (u ∷ uses) text words =
-    known_by_all total uses text (with_use u.text u.how u.is_plural words)
+known_by_all total (u ∷ uses) text words = known_by_all total uses text (with_use u.text u.how u.is_plural words)
     ∙ ap (said_of text uses) (known_with total u.text (joined (word_of u.text words.list) u.how u.is_plural) text words.list
     ∙ said_with u.text text u.how u.is_plural words (is_eq (order text u.text)) refl)

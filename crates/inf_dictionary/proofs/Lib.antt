@@ -3,4 +3,3 @@ pub mod Ranks
 pub mod Wholes
 pub mod Halves
 pub mod Known
-pub mod Faults

@@ -42,12 +42,11 @@ both_changed w c d at from to p stack temp s t h =
     (g.0, comes_then k.1 g.1)
 
 pub none_changed : (w : World) → Always w nothing (GivesNothing w (λ s. Some s))
-none_changed w =
-    so (λ at from to place stack temp s t e. (
-      temp,
-      subst (λ u. Comes w at from (state stack temp s) to (state stack temp u)) (same_some e)
-          (moved place (here w at from (state stack temp s))),
-    )) nothing_
+none_changed w = so (λ at from to place stack temp s t e. (
+  temp,
+  subst (λ u. Comes w at from (state stack temp s) to (state stack temp u)) (same_some e)
+      (moved place (here w at from (state stack temp s))),
+)) nothing_
 
 -- Control comes behind a statement that changes the store, or leaves the routine there.
 pub change_ends : (w : World) (x : Exits) (c : Change) (at : Label → Place) (from to : Place) → GivesNothing w c at from to →
@@ -75,16 +74,14 @@ parts_are w limits (e ∷ trees) h = (part_is false w limits e h.0, parts_are w 
 pub written_ : (w : World) (limits : Limits) (op : Opcode) (f : List ℕ → Store → Option Store) → action_of w op ≡ Writes f →
     (trees : List Tree) → AllCovered trees →
     Always w (worked limits op (parts_in limits trees) None None) (GivesNothing w (with_values w (args_of w trees) f))
-written_ w limits op f act trees h =
-    writes_ false w limits op f (parts_in limits trees) (args_of w trees) act (parts_are w limits trees h)
+written_ w limits op f act trees h = writes_ false w limits op f (parts_in limits trees) (args_of w trees) act (parts_are w limits trees h)
 
 pub line_ended : (w : World) (limits : Limits) → Always w (plain limits Opcode.NewLine) (GivesNothing w (λ s. Some (tells LineEnd s)))
 line_ended w limits = writes_ false w limits Opcode.NewLine (write_of_none (tells LineEnd)) [] [] refl tt
 
 -- Lemmas about calls
 
-pub routine_runs : (w : World) (limits : Limits) (v : Veneer) (trees : List Tree) → AllCovered trees →
-    length (parts_in limits trees) ≤ 7 →
+pub routine_runs : (w : World) (limits : Limits) (v : Veneer) (trees : List Tree) → AllCovered trees → length (parts_in limits trees) ≤ 7 →
     Always w (call_routine limits v (parts_in limits trees) None) (GivesNothing w (routine_run w v trees))
 routine_runs w limits v trees h few =
     supplies_alone false w limits v (parts_in limits trees) (args_of w trees) (parts_are w limits trees h) few
@@ -92,8 +89,7 @@ routine_runs w limits v trees h few =
 pub call_runs : (w : World) (limits : Limits) (f e : Tree) → AllCovered (f ∷ e ∷ []) →
     Always w (call limits (part (meaning limits f)) (part (meaning limits e) ∷ []) None)
     (GivesNothing w (calls w (args_of w (f ∷ e ∷ []))).alone)
-call_runs w limits f e h =
-    (calls_means false w limits (part (meaning limits f)) (part (meaning limits e) ∷ []) (args_of w (f ∷ e ∷ []))
+call_runs w limits f e h = (calls_means false w limits (part (meaning limits f)) (part (meaning limits e) ∷ []) (args_of w (f ∷ e ∷ []))
     (parts_are w limits (f ∷ e ∷ []) h) (omega arith)).alone
 
 -- Where variable 255 has a value, which an instruction takes as its first one, and which it keeps
@@ -104,16 +100,14 @@ Waits w change at from to =
 pub waits_ : (w : World) (limits : Limits) (op : Opcode) (f : List ℕ → Store → Option Store) → action_of w op ≡ Writes f →
     (ps : List Part) (args : List Arg) → AreParts true w ps args →
     Always w (worked limits op (is (Simple.Variable TEMP) ∷ ps) None None) (Waits w (λ n. with_values w (number n ∷ args) f))
-waits_ w limits op f act ps args h =
-    so (λ at from rest p stack temp s t e.
+waits_ w limits op f act ps args h = so (λ at from rest p stack temp s t e.
     let o = opened (values w (number temp ∷ args) s) (λ p. f p.0 p.1) t e in
     let q = number_first w temp args s o.0.0 o.0.1 o.1 in
     let l = p.1.1 stack temp s q.0 o.0.1 q.1 in
     let all = map written (operands (is (Simple.Variable TEMP) ∷ ps)) in
     let item : Parts = record { opcode = op; operands = all; store = None; branch = None; text = [] } in
     let read = ap (and_first l.2.temp) l.4 ∙ ap (λ v. Some (v ∷ q.0, state stack l.0 o.0.1)) (l.3 ∙ l.1.same refl) in
-    let moves =
-    ap (λ a. acted w at a item rest l.2) act
+    let moves = ap (λ a. acted w at a item rest l.2) act
     ∙ ap (λ m. m then λ p. f p.0 p.1.store then λ t. Some (rest, record p.1 { store = t })) read
     ∙ ap (λ ms. f ms o.0.1 then λ t. Some (rest, state stack l.0 t)) q.2
     ∙ ap (λ m. m then λ t. Some (rest, state stack l.0 t)) o.2 in
@@ -128,6 +122,5 @@ both_wait w c d at from to p stack n s t e =
     let o = opened (c n s) (d n) t e in comes_then (p.1 stack n s o.0 o.1) (p.2 stack n o.0 t o.2)
 
 pub none_wait : (w : World) → Always w nothing (Waits w (λ n s. Some s))
-none_wait w =
-    so (λ at from to place stack n s t e. subst (λ u. Comes w at from (state stack n s) to (state stack n u)) (same_some e)
+none_wait w = so (λ at from to place stack n s t e. subst (λ u. Comes w at from (state stack n s) to (state stack n u)) (same_some e)
     (moved place (here w at from (state stack n s)))) nothing_

@@ -79,8 +79,7 @@ waited : (w : World) (limits : Limits) (e : Tree) → Covered false e → (items
     (all : List (Bool × Tree)) → attributes_in items trees ≡ Some all → CoversEach true all →
     Always w ((meaning limits e).value TEMP ▸ attributes_given limits (is (Simple.Variable TEMP)) items trees)
     (GivesNothing w (given_by true w e all))
-waited w limits e h items trees all is covers =
-    so (λ at from to p stack temp s t f.
+waited w limits e h items trees all is covers = so (λ at from to p stack temp s t f.
     let o = opened (value_of w e s) (λ q. all_given w (number q.0) all q.1) t f in
     let k = p.1 stack temp s o.0.0 o.0.1 o.1 in
     (o.0.0, comes_then k.2 (p.2 stack o.0.0 o.0.1 t o.2)))
@@ -102,8 +101,7 @@ several_is (i ∷ j ∷ items) (a ∷ b ∷ trees) all e =
     ap (λ l. are_several ((g.has, a) ∷ l)) n.same ∙ ap are_several g.same
 
 abbrev code_by : Limits → Bool → Tree → List Item → List Tree → Code
-code_by limits true e items trees =
-    (meaning limits e).value TEMP ▸ attributes_given limits (is (Simple.Variable TEMP)) items trees
+code_by limits true e items trees = (meaning limits e).value TEMP ▸ attributes_given limits (is (Simple.Variable TEMP)) items trees
 code_by limits false e items trees = attributes_given limits (part (meaning limits e)) items trees
 
 of_leaf : (limits : Limits) (b : Bool) (x : Simple) (e : Tree) (items : List Item) (trees : List Tree) →

@@ -41,8 +41,7 @@ parts_with op text o = record (bare op) { text = packed text (used_in o.texts) }
 -- An interpreter reads the text in its packed bytes.
 text_is : (w : World) (op : Opcode) (text : List TextItem) → IsText text → (o : Out) → HasTexts w o →
     unpacked w.abbreviations (parts_with op text o).text ≡ text
-text_is w op text h o has =
-    ap (λ a. unpacked a (packed text (used_in o.texts))) has.spelled ∙ unpacks (used_in o.texts) text has.are h
+text_is w op text h o has = ap (λ a. unpacked a (packed text (used_in o.texts))) has.spelled ∙ unpacks (used_in o.texts) text has.are h
 
 text_lays : (w : World) (limits : Limits) (text : List TextItem) → IsText text → (o : Out) → HasTexts w o →
     Lays w (GivesNothing w (printed w (Words text))) o (text_printed limits Opcode.Print (Some text) o)
@@ -115,14 +114,12 @@ by_item w a b p q e h k =
 value_lays : (w : World) (limits : Limits) (op : Opcode) (how : ℕ → Told) → action_of w op ≡ Writes (write_of_one (λ n. tells (how n))) →
     (e : Tree) (trees : List Tree) → AllCovered (e ∷ []) → (o : Out) →
     Lays w (GivesNothing w (told_as w how e)) o (one_worked limits op (e ∷ trees) o)
-value_lays w limits op how act e trees h o =
-    lays_code w (one_worked limits op (e ∷ trees)) (GivesNothing w (told_as w how e))
+value_lays w limits op how act e trees h o = lays_code w (one_worked limits op (e ∷ trees)) (GivesNothing w (told_as w how e))
     (written_ w limits op (write_of_one (λ n. tells (how n))) act (e ∷ []) h) o
 
 veneer_lays : (w : World) (limits : Limits) (v : Veneer) (e : Tree) (trees : List Tree) → AllCovered (e ∷ []) → (o : Out) →
     Lays w (GivesNothing w (routine_run w v (e ∷ []))) o (veneer_called limits v (e ∷ trees) o)
-veneer_lays w limits v e trees h o =
-    lays_code w (veneer_called limits v (e ∷ trees)) (GivesNothing w (routine_run w v (e ∷ [])))
+veneer_lays w limits v e trees h o = lays_code w (veneer_called limits v (e ∷ trees)) (GivesNothing w (routine_run w v (e ∷ [])))
     (routine_runs w limits v (e ∷ []) h (omega arith)) o
 
 ruled_lays : (w : World) (limits : Limits) (r : PrintRule) (e : Tree) (trees : List Tree) (q : Printed × List Tree) →
@@ -156,8 +153,7 @@ ruled_lays w limits PrintRule.EnglishNumber e trees q is h o =
     by_item w o (veneer_called limits Veneer.EnglishNumber (e ∷ trees) o) (InWords e, trees) q is h
     (λ c. veneer_lays w limits Veneer.EnglishNumber e trees c o)
 ruled_lays w limits PrintRule.Routine e [] q is h o = none_some is
-ruled_lays w limits PrintRule.Routine e (f ∷ trees) q is h o =
-    by_item w o (called_with limits (e ∷ f ∷ trees) o) (By e f, trees) q is h
+ruled_lays w limits PrintRule.Routine e (f ∷ trees) q is h o = by_item w o (called_with limits (e ∷ f ∷ trees) o) (By e f, trees) q is h
     (λ c. lays_code w (called_with limits (e ∷ f ∷ trees)) (GivesNothing w (printed w (By e f))) (call_runs w limits e f c) o)
 
 -- an item that is no last text of `print_ret`
@@ -257,15 +253,13 @@ items_lay w limits x set tokens (i ∷ items) trees all e h o has =
 
 -- Lemmas about `print_ret`
 return_lays : (w : World) (limits : Limits) (x : Exits) → Always w (ended limits true) (Runs w x line_returns)
-return_lays w limits x =
-    so (changed_then w x (λ s. Some (tells LineEnd s)) (λ s. Some (Returned 1, s)))
+return_lays w limits x = so (changed_then w x (λ s. Some (tells LineEnd s)) (λ s. Some (Returned 1, s)))
     (then_ (line_ended w limits) (fixed_runs w limits x).0)
 
 -- a last item that is no text
 last_lays : (w : World) (limits : Limits) (x : Exits) (p : Printed) (all : List Printed) (a b : Out) → p ∷ [] ≡ all →
     Lays w (GivesNothing w (printed w p)) a b → Lays w (Runs w x (printed_then w all line_returns)) a (ended limits true b)
-last_lays w limits x p all a b same first =
-    one_more w x p [] all line_returns a b (ended limits true b) same first
+last_lays w limits x p all a b same first = one_more w x p [] all line_returns a b (ended limits true b) same first
     (lays_code w (ended limits true) (Runs w x line_returns) (return_lays w limits x) b)
 
 last_item : (w : World) (limits : Limits) (x : Exits) (set : CharSet) (tokens : List SourceToken) (i : Item) (trees : List Tree)

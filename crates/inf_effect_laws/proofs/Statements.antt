@@ -61,8 +61,7 @@ return_by w limits x site (i ∷ items) trees (p ∷ others) d e f h o has =
 style_set : (w : World) (limits : Limits) (x : Exits) (style : Option ℕ) →
     Always w (styled_by limits style) (Runs w x (λ s. style then λ n. Some (Done, tells (Style n) s)))
 style_set w limits x None = so (λ at from to g stack temp s r t e. none_some e) nothing_
-style_set w limits x (Some n) =
-    so (change_ends w x (λ s. Some (tells (Style n) s)))
+style_set w limits x (Some n) = so (change_ends w x (λ s. Some (tells (Style n) s)))
     (writes_ false w limits Opcode.SetTextStyle (write_of_one (λ m. tells (Style m))) (is (simple (Operand.Known n)) ∷ []) (number n ∷ [])
     refl (simple_part w (Operand.Known n) (λ s. Some (n, s)), tt))
 
@@ -131,8 +130,7 @@ past_some e = absurd (cc e)
 
 low_none : (limits : Limits) (b : Bool) (text : List ℕ) (o : Out) → LaysNone o (with_low_text_by limits b text o)
 low_none limits true text o = none_alike o (with_low_text_by limits true text o) refl refl refl refl
-low_none limits false text o =
-    none_past o (with_low_text_by limits false text o) refl (λ e. past_some e) refl
+low_none limits false text o = none_past o (with_low_text_by limits false text o) refl (λ e. past_some e) refl
     (names_equal o (with_low_text_by limits false text o) refl)
 
 string_by : (w : World) (limits : Limits) (x : Exits) (text : List TextItem) (trees : List Tree) (o : Out) (d : Deed) →
@@ -173,8 +171,7 @@ effects_are_laid w limits site trees Statement.NewLine o d e h has =
     let c = plain limits Opcode.NewLine in
     by_deed w x o (c o) NewLine d e h
     (λ covers. lays_code w c (Runs w x (effect w NewLine)) (changes w x c (λ s. Some (tells LineEnd s)) (line_ended w limits)) o)
-effects_are_laid w limits site trees Statement.Give o d e h has =
-    give_lays w limits (exits site.constructs) site.items trees d e h o
+effects_are_laid w limits site trees Statement.Give o d e h has = give_lays w limits (exits site.constructs) site.items trees d e h o
 effects_are_laid w limits site trees Statement.Move o d e h has = move_lays w limits (exits site.constructs) trees d e h o
 effects_are_laid w limits site trees Statement.Remove o d e h has = remove_lays w limits (exits site.constructs) trees d e h o
 effects_are_laid w limits site trees Statement.Spaces o d e h has = spaces_lay w limits (exits site.constructs) trees d e h o

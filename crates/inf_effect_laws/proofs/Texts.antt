@@ -94,9 +94,7 @@ made_keeps {limits} (Asks v arguments store m) = asked_keeps limits v arguments 
 made_keeps {limits} (Marks l) = mark_keeps limits l
 made_keeps {limits} (Jumps l) = jump_keeps limits l
 made_keeps Packs = record { keeps = λ o. refl }
-made_keeps {limits} (Prints op text) = record {
-  keeps = λ o. item_keeps limits (Item.Instruction (record (bare op) { text = text o })) o;
-}
+made_keeps {limits} (Prints op text) = record { keeps = λ o. item_keeps limits (Item.Instruction (record (bare op) { text = text o })) o }
 made_keeps {limits} (Lows text body f) = record {
   keeps = λ o. (made_keeps (f o)).keeps (with_low_text limits text o) ∙ low_keeps limits text o;
 }

@@ -140,15 +140,13 @@ linked_clean t files main names code strings tables r clean (Some LinkFault.Read
 linked_clean t files main names code strings tables r clean (Some LinkFault.StoryTooLong) = λ e. cc
 linked_clean t files main names code strings tables r clean (Some LinkFault.Memory) = λ e. cc
 
-named_clean : (t : Telling) (files : FileNames) (main : ℕ) (code : Routines) (strings : StringArea) (tables : AllTables) (r : Reported)
-    →
+named_clean : (t : Telling) (files : FileNames) (main : ℕ) (code : Routines) (strings : StringArea) (tables : AllTables) (r : Reported) →
     is_clean r ≡ true → (names : Option (List Value)) → EndsSo r (named t files main code strings tables r names)
 named_clean t files main code strings tables r clean None = λ e. cc
 named_clean t files main code strings tables r clean (Some names) = linked_clean t files main names code strings tables r clean
     (too_long (fields_of t code) main code.finished strings.bytes tables)
 
-laid_clean : (t : Telling) (files : FileNames) (main : ℕ) (o : Out) (r : Reported) → is_clean r ≡ true →
-    EndsSo r (laid t files main o r)
+laid_clean : (t : Telling) (files : FileNames) (main : ℕ) (o : Out) (r : Reported) → is_clean r ≡ true → EndsSo r (laid t files main o r)
 laid_clean t files main o r clean = named_clean t files main o.code o.strings o.tables r clean (values_of o.names.names)
 
 begun_clean : (t : Telling) (files : FileNames) (o : Out) (r : Reported) (main : Option ℕ) → EndsSo r (begun t files o r main)

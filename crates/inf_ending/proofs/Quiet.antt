@@ -35,8 +35,7 @@ hides_told (Err f) before now told = (tt, unless_told f (now ≡ before) told)
 pub hides_behind : {T : Type 0} (r : Result T Fault) (first before now : ℕ) → IsErr r → before ≡ first
     → IfErr r (λ f. UnlessMessages f (now ≡ before)) → HidesNoFailure r first now
 hides_behind (Ok x) first before now is same hides = cc
-hides_behind (Err f) first before now is same hides =
-    (tt, unless_more f (now ≡ before) (now ≡ first) (λ later. later ∙ same) hides)
+hides_behind (Err f) first before now is same hides = (tt, unless_more f (now ≡ before) (now ≡ first) (λ later. later ∙ same) hides)
 
 -- a call behind others that counted no failure
 pub hides_then : {T : Type 0} (r : Result T Fault) (first before now : ℕ) → before ≡ first → HidesNoFailure r before now →

@@ -49,8 +49,7 @@ use Rattle.inf_entry_laws.specs.Laws.{header_of, name_of, number_next, object_sh
 -- Lemmas about names
 
 put_found : (key : List ℕ) (s : Standing Place) (names : List (Named Place)) → standing_of key (put key s names) ≡ Some s
-put_found key s [] =
-    ap (λ b. cond b (Some s) None) (let same : bytes_eq key key ≡ true = (bytes_eq-Decides key key).1 refl in same)
+put_found key s [] = ap (λ b. cond b (Some s) None) (let same : bytes_eq key key ≡ true = (bytes_eq-Decides key key).1 refl in same)
 put_found key s (n ∷ names) = by (bytes_eq key n.name) refl (put_found key s names)
   where
     by : (b : Bool) → bytes_eq key n.name ≡ b → standing_of key (put key s names) ≡ Some s
@@ -60,8 +59,7 @@ put_found key s (n ∷ names) = by (bytes_eq key n.name) refl (put_found key s n
 
 is_named : (limits : Limits) (n : Name) (m : Meaning) (o : Out) → declare_fault limits n.bytes o.names ≡ None
     → found_in n.bytes (name_declared limits n m o).names ≡ Found.Declared m n.place
-is_named limits n m o free =
-    ap (λ f. found_in n.bytes (declared_by limits f n.bytes n.place m o).names) free
+is_named limits n m o free = ap (λ f. found_in n.bytes (declared_by limits f n.bytes n.place m o).names) free
     ∙ ap (found_as (system_meaning o.names.is_debugging n.bytes))
     (put_found (folded n.bytes) (IsDeclared o.names.declared m n.place) o.names.names)
 
@@ -137,8 +135,7 @@ module _ (limits : Limits) (context : Context) (place : Place) (w : Compilation)
   joined_is (Some c) o fits = ap (λ f. joined_by limits f c o) fits
 
   abbrev object_output : Out
-  object_output =
-      (object_ended limits context place (name_of w) (object_known context (header_of w) (name_of w) w)
+  object_output = (object_ended limits context place (name_of w) (object_known context (header_of w) (name_of w) w)
       (object_opened limits context (object_known context (header_of w) (name_of w) w).finding (header_of w) (name_of w) w)).output
 
   abbrev packed_output : Out
@@ -171,8 +168,7 @@ module _ (limits : Limits) (context : Context) (place : Place) (w : Compilation)
       → FirstClassFits limits (class_of_word w) (with_object_header (parent_of w) (object_short context w) (world_of w))
       → object_output.tables.world
       ≡ with_first_class (class_of_word w) (with_object_header (parent_of w) (object_short context w) (world_of w))
-  object_changes untold fits first =
-      ap (λ o. o.tables.world) (object_is untold fits first)
+  object_changes untold fits first = ap (λ o. o.tables.world) (object_is untold fits first)
       ∙ ap (λ t. t.world) (named_tables (name_of w) _ _)
       ∙ ap (λ t. with_first_class (class_of_word w) (with_object_header (parent_of w) (object_short context w) t.world))
       (packed_tables (short_text context (header_of w) (name_of w) w) w.output)
@@ -202,10 +198,8 @@ headers_change limits context place w = record {
 
 pub entries_change : EntriesChangeWorlds
 entries_change limits context place w = record {
-  class = λ c e h.
-      ap (λ k. (joined_some limits k w.output).tables.world) e ∙ ap (λ f. (joined_by limits f c w.output).tables.world) h;
-  attribute = λ a e h.
-      ap (λ k. (attribute_set_some k (is_given w.unit.tokens (last_at w.unit.tokens)) w.output).tables.world) e
+  class = λ c e h. ap (λ k. (joined_some limits k w.output).tables.world) e ∙ ap (λ f. (joined_by limits f c w.output).tables.world) h;
+  attribute = λ a e h. ap (λ k. (attribute_set_some k (is_given w.unit.tokens (last_at w.unit.tokens)) w.output).tables.world) e
       ∙ ap (λ f. (attribute_set_by f a (is_given w.unit.tokens (last_at w.unit.tokens)) w.output).tables.world) h;
   property = refl;
   ends = λ h. ap (λ f. world_ended_by f (world_of w)) h;
@@ -356,8 +350,7 @@ pub values_change : ValuesChangeWorlds
 values_change limits context place w = record {
   known = known_changes limits w;
   new = new_changes limits w;
-  more = λ v e h.
-      ap (λ f. world_of (further_placed limits f v w)) e ∙ ap (λ f. (further_added_by limits f v w.output).tables.world) h;
+  more = λ v e h. ap (λ f. world_of (further_placed limits f v w)) e ∙ ap (λ f. (further_added_by limits f v w.output).tables.world) h;
   word = λ items e f.
       let name = name_place w.unit.outer in
       ap (λ t. world_of (any_placed limits context t name w)) e

@@ -58,8 +58,7 @@ module _ (limits : Limits) {A : Type 0} (P : AllTables → A)
 
   pub tokens_stay : (at : ℕ) (tokens : List SourceToken) (o : Out) → P (line_tokens limits at tokens o).0.tables ≡ P o.tables
   tokens_stay zero tokens o = refl
-  tokens_stay (suc at) tokens o =
-      token_stays (kind_at tokens at) tokens at (line_tokens limits at tokens o).0 ∙ tokens_stay at tokens o
+  tokens_stay (suc at) tokens o = token_stays (kind_at tokens at) tokens at (line_tokens limits at tokens o).0 ∙ tokens_stay at tokens o
 
   numbered_stays_by : (f : Option ActionFault) (routine : ℕ) (o : Out) → P (numbered_by limits f routine o).0.tables ≡ P o.tables
   numbered_stays_by None routine o = actions (with_action routine o.tables.actions) o.tables
@@ -69,13 +68,11 @@ module _ (limits : Limits) {A : Type 0} (P : AllTables → A)
   numbered_stays None o = refl
   numbered_stays (Some routine) o = numbered_stays_by (action_fault limits routine o.tables.actions) routine o
 
-  appeared_stays : (f : Option (DeclareFault Place)) (key : List ℕ) (at : Place) (o : Out)
-      → P (seen_by f key at o).tables ≡ P o.tables
+  appeared_stays : (f : Option (DeclareFault Place)) (key : List ℕ) (at : Place) (o : Out) → P (seen_by f key at o).tables ≡ P o.tables
   appeared_stays None key at o = refl
   appeared_stays (Some fault) key at o = refl
 
-  action_stays_by : (fake : Option ℕ) (name : List ℕ) (at : Place) (o : Out)
-      → P (action_of_by limits fake name at o).0.tables ≡ P o.tables
+  action_stays_by : (fake : Option ℕ) (name : List ℕ) (at : Place) (o : Out) → P (action_of_by limits fake name at o).0.tables ≡ P o.tables
   action_stays_by (Some fake) name at o = refl
   action_stays_by None name at o =
       let p = appeared (key_of name) at o in

@@ -38,8 +38,7 @@ open_fits : (b : Bool) (g : Option WorldFault) (f : WorldFault) → cond b g (So
 open_fits true g f e = e
 open_fits false g f e = absurd (cc e)
 
-class_there : (limits : Limits) (c : ℕ) (w : WorldOf) → (c == 0) ≡ false → class_of_fault limits c w ≡ None
-    → ClassFits c w.objects
+class_there : (limits : Limits) (c : ℕ) (w : WorldOf) → (c == 0) ≡ false → class_of_fault limits c w ≡ None → ClassFits c w.objects
 class_there limits c w some e = (
   some,
   by (class_at c w.objects) (ap (λ b. cond b None (class_by_fault limits (class_at c w.objects) c w)) (sym some)
@@ -62,8 +61,7 @@ module _ (limits : Limits) (n : ℕ) (v : Option Value) (w : WorldOf) where
   abbrev own : Open
   own = w.body.properties
 
-  given_new : (b l : Bool)
-      → cond l (option_map given_fault (lost_given_fault n own))
+  given_new : (b l : Bool) → cond l (option_map given_fault (lost_given_fault n own))
       (option_map given_fault (give_fault (given_first n b v) (room_of limits w) own))
       ≡ None
       → has n own.own ≡ false
@@ -99,8 +97,7 @@ module _ (limits : Limits) (context : Context) where
   plain_is u (Some items) e right = (values_change limits context u.place u.work).word items e right
   plain_is u None e right = (values_change limits context u.place u.work).expression e right
 
-  value_is : (u : ValueUnit) → IsRight limits context u
-      → world_of (value_behind limits context u)
+  value_is : (u : ValueUnit) → IsRight limits context u → world_of (value_behind limits context u)
       ≡ world_of (placed limits (taken limits context u).name (taken limits context u).value None (taken limits context u).work)
   value_is (Plain u) right = plain_is u (text_in context u.work) refl right
   value_is (Routine u) right = (values_change limits context u.place (headless u.work)).routine _ _ u.work.unit.headed right
@@ -117,8 +114,7 @@ module _ (limits : Limits) (context : Context) where
   first_run place (Some n) at v w number untold fits = (values_change limits context place w).known at n v number untold fits
   first_run place None at v w number untold fits = (values_change limits context place w).new at v number untold fits.0 fits.1
 
-  first_is : (p : PropertyName) (u : ValueUnit) (before : Compilation) (numbers : List (ℕ × ℕ))
-      → IsFirst limits context p u before numbers
+  first_is : (p : PropertyName) (u : ValueUnit) (before : Compilation) (numbers : List (ℕ × ℕ)) → IsFirst limits context p u before numbers
       → world_of (value_behind limits context u)
       ≡ first_world (number_of p numbers) (Some (value_in limits context u)) (world_of before)
   first_is p u before numbers i =
@@ -145,8 +141,7 @@ module _ (limits : Limits) (context : Context) where
   values_run : (more : List ValueUnit) (before : Compilation) → AreFurther limits context more before
       → world_of (values_behind limits context more before) ≡ with_values (map (value_in limits context) more) (world_of before)
   values_run [] before are = refl
-  values_run (u ∷ more) before are =
-      values_run more (value_behind limits context u) are.1
+  values_run (u ∷ more) before are = values_run more (value_behind limits context u) are.1
       ∙ ap (with_values (map (value_in limits context) more)) (further_is u before are.0)
 
   -- Lemmas about properties
@@ -226,8 +221,7 @@ module _ (limits : Limits) (context : Context) where
   parts_fit (u ∷ body) before numbers are =
       let r = part_done (part_of limits context u) (run before numbers) in (
         part_fits u before numbers are.0,
-        subst (PartsFit (map (part_of limits context) body))
-            (run_is r (part_behind limits context u) (part_is u before numbers are.0))
+        subst (PartsFit (map (part_of limits context) body)) (run_is r (part_behind limits context u) (part_is u before numbers are.0))
             (parts_fit body (part_behind limits context u) r.numbers are.1),
       )
 
@@ -274,14 +268,11 @@ module _ (limits : Limits) (context : Context) where
         (subst (λ w. FirstClassFits limits f (with_object_header p short w)) (sym i.continues) i.class_fits)
         ∙ ap (λ w. with_first_class f (with_object_header p short w)) i.continues in
         record {
-          is =
-              ap (λ w. parts_done parts (record { world = w; numbers = numbers })) world
-              ∙ first_done f parts w numbers
+          is = ap (λ w. parts_done parts (record { world = w; numbers = numbers })) world ∙ first_done f parts w numbers
               ∙ ap (λ w. parts_done (first_part f ++ parts) (record { world = w; numbers = numbers }))
               (sym (headed_by p short (world_of before)));
           head = head_by p short (world_of before) i.fits;
-          fits = λ rest.
-              subst (λ w. PartsFit (first_part f ++ parts) (record { world = w; numbers = numbers }))
+          fits = λ rest. subst (λ w. PartsFit (first_part f ++ parts) (record { world = w; numbers = numbers }))
               (sym (headed_by p short (world_of before)))
               (first_fits f parts w numbers i.known i.class_fits
               (subst (λ w. PartsFit parts (record { world = w; numbers = numbers })) world rest));
@@ -311,8 +302,7 @@ module _ (limits : Limits) (context : Context) where
       heads = header_heads parts before numbers d.header i.header
 
       declaration_is : world_of (body_ended d.last) ≡ (body_done (body_of limits context d) (run before numbers)).world
-      declaration_is =
-          (entries_change limits context (place_in d.header) d.last).ends i.is_open
+      declaration_is = (entries_change limits context (place_in d.header) d.last).ends i.is_open
           ∙ ap with_end (i.continues ∙ parts_run d.body (header_behind limits context d.header) numbers i.body
           ∙ ap (λ r. r.world) heads.is)
         where

@@ -48,8 +48,7 @@ again_by n false o h = refl
 
 module _ (how : WordUse) (n : ℕ) (is : verb_in how ≡ Some n) where
   again : (u t : Text) (p : Bool) (words : Words) → verb_of u words.list ≡ Some n → verb_of t (with_use u how p words).list ≡ verb_of t words.list
-  again u t p words e =
-      one_used how p u t words
+  again u t p words e = one_used how p u t words
       ∙ ap (λ v. cond (same_text t u) (or_verb v (verb_of t words.list)) (verb_of t words.list)) is
       ∙ again_by n (same_text t u) (verb_of t words.list) (λ h. ap (λ x. verb_of x words.list) (same_is t u h) ∙ e)
 
@@ -64,8 +63,7 @@ module _ (how : WordUse) (n : ℕ) (is : verb_in how ≡ Some n) where
       → verb_of t words.list ≡ cond (has_word t before) (Some n) old
       → verb_of t (word_with word how words).list ≡ cond (has_word t (with_text word before)) (Some n) old
   one_more None before t words old e = e
-  one_more (Some word) before t words old e =
-      one_used how word.is_plural word.text t words
+  one_more (Some word) before t words old e = one_used how word.is_plural word.text t words
       ∙ ap (λ v. cond (same_text t word.text) (or_verb v (verb_of t words.list)) (verb_of t words.list)) is
       ∙ ap (cond (same_text t word.text) (Some n)) e
       ∙ chosen (has_word t before) (same_text t word.text) (Some n) old
@@ -129,11 +127,9 @@ module _ (limits : Limits) (t : Text) where
   kept_leaves : (v : Option ℕ) (how : LinePlace) (l : LineOf) (o : Out)
       → verb_in_tables t (line_kept_by limits v how l o).tables ≡ verb_in_tables t o.tables
   kept_leaves None how l o = refl
-  kept_leaves (Some n) how l o =
-      laid_leaves (has_verb n o) (line_fault_of limits (length l.tokens) o.tables.verbs) n how l o
+  kept_leaves (Some n) how l o = laid_leaves (has_verb n o) (line_fault_of limits (length l.tokens) o.tables.verbs) n how l o
 
-  line_leaves : (context : Context) (u : Piece)
-      → tokens_finding (arrow_in u.work.unit.tokens) u.work.unit.tokens u.work.output.names ≡ None
+  line_leaves : (context : Context) (u : Piece) → tokens_finding (arrow_in u.work.unit.tokens) u.work.unit.tokens u.work.output.names ≡ None
       → verb_of t (words_of (line_ended limits context u.place u.work)).list ≡ verb_of t (words_of u.work).list
   line_leaves context u untold =
       let w = u.work in
@@ -194,8 +190,7 @@ module _ (limits : Limits) (context : Context) (f : Line → LineOf) where
       let opens : w.extending ≡ lines_of (Some n) how = i.same_verb ∙ opened in
       lines_alike n how lines (with_line_told f n how l.line s) (line_ended limits context u.place w)
       (record {
-        verbs =
-            (verbs_change limits context u.place w).line n (ap (λ e. e.verb) opens) i.there i.untold i.fits
+        verbs = (verbs_change limits context u.place w).line n (ap (λ e. e.verb) opens) i.there i.untold i.fits
             ∙ ap (λ e. with_line_of n e.place (line_of limits w) (verbs_of w)) opens
             ∙ ap (λ l. with_line_of n how l (verbs_of w)) i.told
             ∙ ap (with_line_of n how (f l.line)) (b.verbs ∙ sym (words_keep_verbs WordUse.Preposition texts s));
@@ -218,10 +213,8 @@ module _ (limits : Limits) (context : Context) (f : Line → LineOf) where
       (verb_behind limits context (New u lines))) (ap (λ v. length v.list) b.verbs)
       (lines_alike n LinePlace.Last lines (with_words (use_by is_meta n) texts r) h
       (record {
-        verbs =
-            c.verb i.plain i.untold i.fits ∙ ap with_verb b.verbs ∙ sym (words_keep_verbs (use_by is_meta n) texts r);
-        words = λ t.
-            ap (λ words. verb_of t words.list) (c.words i.plain i.untold i.fits i.words_fit)
+        verbs = c.verb i.plain i.untold i.fits ∙ ap with_verb b.verbs ∙ sym (words_keep_verbs (use_by is_meta n) texts r);
+        words = λ t. ap (λ words. verb_of t words.list) (c.words i.plain i.untold i.fits i.words_fit)
             ∙ words_verbs (use_of n w) n (use_is is_meta n) (head_of w).end w.unit.tokens t (words_of w)
             ∙ ap (cond (has_word t texts) (Some n)) (b.words t)
             ∙ sym (verbs_used (use_by is_meta n) n texts t r (use_is is_meta n));
@@ -244,10 +237,8 @@ module _ (limits : Limits) (context : Context) (f : Line → LineOf) where
       λ t. words_verbs (use_of n w) n (use_is is_meta n) (head_of w).end w.unit.tokens t (words_of w) in
       subst (λ o. Alike (with_more_words o is_meta texts s) (verb_behind limits context (More u at))) (sym known ∙ b.words (text_at at w))
       (record {
-        verbs =
-            c.like at n i.sign i.untold i.named ∙ b.verbs ∙ sym (words_keep_verbs (use_by is_meta n) texts s);
-        words = λ t.
-            ap (λ words. verb_of t words.list) (c.more_words at n i.sign i.untold i.named i.words_fit i.word_fits)
+        verbs = c.like at n i.sign i.untold i.named ∙ b.verbs ∙ sym (words_keep_verbs (use_by is_meta n) texts s);
+        words = λ t. ap (λ words. verb_of t words.list) (c.more_words at n i.sign i.untold i.named i.words_fit i.word_fits)
             ∙ word_again (WordUse.Verb n) n refl word t words (verb (text_at at w) ∙ still (has_word (text_at at w) texts) n _ known)
             ∙ verb t
             ∙ ap (cond (has_word t texts) (Some n)) (b.words t)
@@ -278,8 +269,7 @@ module _ (limits : Limits) (context : Context) (f : Line → LineOf) where
       (lines_alike n how lines r (extend_header limits context u.place w)
       (record {
         verbs = c.extend n i.named i.there ∙ ap (with_extended n how) b.verbs;
-        words = λ t.
-            ap (λ k. verb_in_tables t (verb_extended limits k how word w.output).tables) i.named
+        words = λ t. ap (λ k. verb_in_tables t (verb_extended limits k how word w.output).tables) i.named
             ∙ header_leaves limits t n how word w.output known ∙ b.words t;
       })
       (c.extends n i.named) i.are_lines))

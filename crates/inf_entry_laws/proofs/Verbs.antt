@@ -43,8 +43,7 @@ module _ (limits : Limits) where
   words_stay : (at : ℕ) (tokens : List SourceToken) (how : WordUse) (o : Out)
       → (words_used limits at tokens how o).tables.verbs ≡ o.tables.verbs
   words_stay zero tokens how o = refl
-  words_stay (suc at) tokens how o =
-      used_stays (word_at tokens at) how (words_used limits at tokens how o) ∙ words_stay at tokens how o
+  words_stay (suc at) tokens how o = used_stays (word_at tokens at) how (words_used limits at tokens how o) ∙ words_stay at tokens how o
 
   like_stays : (at : Option ℕ) (tokens : List SourceToken) (number : ℕ) (o : Out)
       → (like_used limits at tokens number o).tables.verbs ≡ o.tables.verbs
@@ -94,20 +93,15 @@ module _ (limits : Limits) where
     abbrev new_opened : Out × Opened
     new_opened = new_verb_by limits None w.output
 
-    new_is : (head_of w).like ≡ None → add_fault limits (verbs_of w) ≡ None
-        → verb_opened limits (head_of w) tokens w.output
+    new_is : (head_of w).like ≡ None → add_fault limits (verbs_of w) ≡ None → verb_opened limits (head_of w) tokens w.output
         ≡ (words_given limits new_opened.1.words (head_of w) tokens new_opened.0, new_opened.1.lines)
-    new_is none fits =
-        ap (λ like. (
-          words_given limits (verb_begun limits like tokens w.output).1.words (head_of w) tokens
-              (verb_begun limits like tokens w.output).0,
-          (verb_begun limits like tokens w.output).1.lines,
-        )) none
-        ∙ ap (λ f. (
-          words_given limits (new_verb_by limits f w.output).1.words (head_of w) tokens
-              (new_verb_by limits f w.output).0,
-          (new_verb_by limits f w.output).1.lines,
-        )) fits
+    new_is none fits = ap (λ like. (
+      words_given limits (verb_begun limits like tokens w.output).1.words (head_of w) tokens (verb_begun limits like tokens w.output).0,
+      (verb_begun limits like tokens w.output).1.lines,
+    )) none ∙ ap (λ f. (
+      words_given limits (new_verb_by limits f w.output).1.words (head_of w) tokens (new_verb_by limits f w.output).0,
+      (new_verb_by limits f w.output).1.lines,
+    )) fits
 
     header_is : head_finding (head_of w) tokens w.output ≡ None
         → header_opened limits (head_finding (head_of w) tokens w.output) (head_of w) w ≡ header_opened limits None (head_of w) w
@@ -116,13 +110,10 @@ module _ (limits : Limits) where
     like_is : (at number : ℕ) → (head_of w).like ≡ Some at → verb_named tokens at w.output ≡ Some number
         → verb_opened limits (head_of w) tokens w.output
         ≡ (words_given limits (Some number) (head_of w) tokens w.output, None)
-    like_is at number like named =
-        ap (λ l. (
-          words_given limits (verb_begun limits l tokens w.output).1.words (head_of w) tokens
-              (verb_begun limits l tokens w.output).0,
-          (verb_begun limits l tokens w.output).1.lines,
-        )) like
-        ∙ ap (λ n. (words_given limits n (head_of w) tokens w.output, None)) named
+    like_is at number like named = ap (λ l. (
+      words_given limits (verb_begun limits l tokens w.output).1.words (head_of w) tokens (verb_begun limits l tokens w.output).0,
+      (verb_begun limits l tokens w.output).1.lines,
+    )) like ∙ ap (λ n. (words_given limits n (head_of w) tokens w.output, None)) named
 
 pub verbs_change : VerbsChangeTables
 verbs_change limits context place w =
@@ -130,21 +121,17 @@ verbs_change limits context place w =
     let head = head_of w in
     let number = length (verbs_of w).list in
     record {
-      verb = λ none untold fits.
-          ap (λ u. u.output.tables.verbs) (header_is limits w untold)
+      verb = λ none untold fits. ap (λ u. u.output.tables.verbs) (header_is limits w untold)
           ∙ ap (λ v. v.0.tables.verbs) (new_is limits w none fits)
           ∙ given_stays limits (Some number) head tokens (with_verbs (with_verb (verbs_of w)) w.output);
-      words = λ none untold fits words.
-          ap (λ u. u.output.tables.dictionary) (header_is limits w untold)
+      words = λ none untold fits words. ap (λ u. u.output.tables.dictionary) (header_is limits w untold)
           ∙ ap (λ v. v.0.tables.dictionary) (new_is limits w none fits)
           ∙ ap (λ l. (like_used limits l tokens number (words_used limits head.end tokens (use_of number w)
           (with_verbs (with_verb (verbs_of w)) w.output))).tables.dictionary) none
           ∙ words_are limits head.end tokens (use_of number w) (with_verbs (with_verb (verbs_of w)) w.output) words;
-      opens = λ none untold fits.
-          ap (λ u. u.extending) (header_is limits w untold)
+      opens = λ none untold fits. ap (λ u. u.extending) (header_is limits w untold)
           ∙ ap (λ v. lines_of v.1 LinePlace.Last) (new_is limits w none fits);
-      like = λ at n like untold named.
-          ap (λ u. u.output.tables.verbs) (header_is limits w untold)
+      like = λ at n like untold named. ap (λ u. u.output.tables.verbs) (header_is limits w untold)
           ∙ ap (λ v. v.0.tables.verbs) (like_is limits w at n like named)
           ∙ given_stays limits (Some n) head tokens w.output;
       more_words = λ at n like untold named words word.

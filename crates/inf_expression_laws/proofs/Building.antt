@@ -19,8 +19,7 @@ Lists events order place count parts =
       sources = all_sources parts s.sources;
       counts = length parts ∷ counts;
       order = s.order + count;
-      place = s.place
-          + leaf_count_of_all parts;
+      place = s.place + leaf_count_of_all parts;
     })
 
 pub leaf_builds : (a : Action) → step_of a ≡ Some GatherStep.Leaf → (order place atom : ℕ) →
@@ -32,8 +31,7 @@ leaf_builds a e order place atom s o p more =
       sources = Leaf (own i) (own i) (p i) ∷ s.sources;
       counts = s.counts;
       brackets = s.brackets;
-      order =
-          s.order + 1;
+      order = s.order + 1;
       place = s.place + 1;
     })
 
@@ -47,8 +45,7 @@ action_builds order place sign atom s o p more =
       sources = Leaf (first i) (own i) (p i) ∷ s.sources;
       counts = s.counts;
       brackets = s.brackets;
-      order =
-          next i;
+      order = next i;
       place = s.place + 1;
     })
 
@@ -62,8 +59,7 @@ system_builds order place sign atom s o p more =
       sources = Leaf (first i) (own i) (p i) ∷ s.sources;
       counts = s.counts;
       brackets = s.brackets;
-      order =
-          next i;
+      order = next i;
       place = s.place + 1;
     })
 
@@ -99,8 +95,7 @@ suffix_builds op x effect order place sign atoms a events b s o p more =
       counts = s.counts;
       brackets = s.brackets;
       order = next i;
-      place =
-          s.place + leaf_count a;
+      place = s.place + leaf_count a;
     })
 
 pub two_builds : (op : Binary) (x : Action) → ((s : State) → stepped (step_of x) s ≡ record s { sources = over_two (Two op) s.sources }) →
@@ -120,8 +115,7 @@ two_builds op x effect order place sign left right a b first second f g s o p mo
       counts = s.counts;
       brackets = s.brackets;
       order = next i;
-      place =
-          last i;
+      place = last i;
     })
 
 pub brackets_build : (order place left right : ℕ) (atoms : List ℕ) (a : Source) (events : List (Event Action) → List (Event Action)) →
@@ -183,8 +177,7 @@ call_builds order place left right atoms given a b sources first second f g s o 
       arith,
       length-append ((atoms ++ left ∷ []) ++ given) (right ∷ []),
       length-append (atoms ++ left ∷ []) given,
-      length-append atoms
-          (left ∷ []),
+      length-append atoms (left ∷ []),
     ) in
     let last : (s.place + leaf_count a) + leaf_count_of_all (b ∷ sources) ≡ s.place + (leaf_count a + leaf_count (list_of b sources)) =
     omega (arith, list_leaves b sources) in
@@ -212,8 +205,7 @@ alone_builds order place left right atoms a events b s o p more =
       counts = s.counts;
       brackets = s.brackets;
       order = next i;
-      place =
-          s.place + leaf_count a;
+      place = s.place + leaf_count a;
     })
 
 -- Lemmas about lists
@@ -227,8 +219,7 @@ one_lists order place n a events b s o p counts e more =
       counts = ap one_more e i;
       brackets = s.brackets;
       order = s.order + n;
-      place =
-          last i;
+      place = last i;
     })
 
 last_source : (parts : List Source) (a : Source) (sources : List Source) →
@@ -263,7 +254,6 @@ more_lists order place sign left right parts a first second f g s o p counts e m
       sources = last_source parts a s.sources i;
       counts = count i ∷ counts;
       brackets = s.brackets;
-      order =
-          next i;
+      order = next i;
       place = last i;
     })

@@ -5,7 +5,7 @@ use Rattle.inf_syntax.specs.declared.actions.Action.{Action}
 use Rattle.inf_expressions.specs.{declared.operators.Binary.Binary, declared.operators.Unary.Unary}
 use Rattle.inf_expressions.specs.Sources.{Source, Leaf, Brackets, Prefix, Suffix, Two, Then, Call, Alone}
 use Rattle.inf_unit.specs.{Steps.step_of, declared.steps.GatherStep.GatherStep}
-use Rattle.inf_expression_laws.specs.{Gathered.first_of, Precedence.leaf_count, Precedence.leaf_count_of_all, Precedence.list_of}
+use Rattle.inf_expression_laws.specs.{Gathered.first_of, Precedence.leaf_count, Precedence.list_of}
 
 -- Expressions so far, the latest first; the number of parts of each open list, and the order of each open bracket; the
 -- order of the next token, and the place of the next leaf.
@@ -87,14 +87,6 @@ Builds events order place count a =
 abbrev pub all_sources : List Source → List Source → List Source
 all_sources [] sources = sources
 all_sources (a ∷ parts) sources = all_sources parts (a ∷ sources)
-
-abbrev pub pushed_parts : ℕ → List Source → State → State
-pushed_parts count parts s = record s {
-  sources = all_sources parts s.sources;
-  counts = length parts ∷ s.counts;
-  order = s.order + count;
-  place = s.place + leaf_count_of_all parts;
-}
 
 pub list_joined : (a : Source) (parts sources : List Source) →
     joined (length parts) (all_sources (a ∷ parts) sources) ≡ list_of a parts ∷ sources

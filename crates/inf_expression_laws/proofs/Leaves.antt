@@ -45,8 +45,7 @@ within_all f u count tokens a = omega (arith, a.few, ap length a.all, length-app
 -- whether the last token is an operand of an assembly line by itself
 alone_is : (f : Frame) (u : Unit) (count : ℕ) (tokens : List SourceToken) → At f u count tokens → 0 < count → (at n : ℕ) → at ≡ n →
     is_alone at u ≡ (is_first n f.outer && is_some_mark Mark.At (kind_at f.all f.begun))
-alone_is f u count tokens a some at n e i =
-    is_first (e i) (a.outer i)
+alone_is f u count tokens a some at n e i = is_first (e i) (a.outer i)
     && (ap (λ b. is_some_mark Mark.At (kind_at u.tokens b)) a.begun ∙ ap (is_some_mark Mark.At)
     (kind_kept f u count tokens a f.begun (omega (arith, a.long, a.early, some)))) i
 

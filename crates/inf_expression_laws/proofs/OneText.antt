@@ -48,8 +48,7 @@ same_empty (action {a = a} l) (action k) = ap (λ es. Did a ∷ es) (same_empty 
 same_empty (row {rule = rule} {r = r} {symbols = symbols} m free l) (row {r = s} {events = others} n clear k) =
     let first = and_parts (can_end known r.parts) (can_end known symbols) (sym (can_end_append r.parts symbols) ∙ ended l) in
     let second = and_parts (can_end known s.parts) (can_end known symbols) (sym (can_end_append s.parts symbols) ∙ ended k) in
-    let same : s.parts ≡ r.parts =
-    sym (empty_is_chosen known (grammar.rows_of rule) s n second.0 (at_most_one rule))
+    let same : s.parts ≡ r.parts = sym (empty_is_chosen known (grammar.rows_of rule) s n second.0 (at_most_one rule))
     ∙ empty_is_chosen known (grammar.rows_of rule) r m first.0 (at_most_one rule) in
     same_empty l (subst (λ parts. Leads grammar (parts ++ symbols) [] others []) same k)
 

@@ -7,9 +7,7 @@ use Rattle.inf_machine.specs.Grammar.{Event, IsNext_not, IsText, Took, Did, firs
 use Rattle.inf_machine.proofs.Sets.{has_and, has_zero}
 use Rattle.inf_scanner.specs.declared.tokens.Mark.{Mark}
 use Rattle.inf_syntax.specs.{Atoms.of_mark, Atoms.of_word, declared.actions.Action.Action}
-use Rattle.inf_syntax.specs.Parts.{ !part, address_tail, array_tail, assign, assign_tail, bit, call_1, call_2, expression, expression_tail}
-use Rattle.inf_syntax.specs.Parts.{inc, logic, logic_tail, neg, negated, post, post_tail, prim, step_tail, sum, sum_tail, term, term_tail}
-use Rattle.inf_syntax.specs.Parts.{test_tail, tested_1}
+use Rattle.inf_syntax.specs.declared.parts.names.TheConstants as Part
 use Rattle.inf_expressions.specs.{Sources.Suffix, Sources.Two, declared.operators.Binary.Binary, declared.operators.Direction.Direction}
 use Rattle.inf_expressions.specs.{declared.operators.Operation.Operation, declared.operators.PropertyPart.PropertyPart}
 use Rattle.inf_expressions.specs.{declared.operators.Single.Single, declared.operators.Test.Test, declared.operators.Unary.Unary}
@@ -23,40 +21,28 @@ use Rattle.inf_expression_laws.proofs.Built.{State, behind, over_one, over_two, 
 -- Symbols that an expression of a level begins, and those that may go on with it at its level
 
 abbrev pub begin : ℕ → List (Symbol Action)
-begin level =
-    get_or ((expression ∷ [])
-    ∷ (assign ∷ [])
-    ∷ (logic ∷ [])
-    ∷ (negated ∷ [])
-    ∷ (sum ∷ test_tail ∷ [])
-    ∷ (sum ∷ [])
-    ∷ (term ∷ [])
-    ∷ (bit ∷ [])
-    ∷ (neg ∷ array_tail ∷ [])
-    ∷ (neg ∷ [])
-    ∷ (inc ∷ [])
-    ∷ (post ∷ address_tail ∷ step_tail ∷ [])
-    ∷ (post ∷ address_tail ∷ [])
-    ∷ (post ∷ [])
-    ∷ (prim ∷ [])
+begin level = get_or ((Part.EXPRESSION ∷ []) ∷ (Part.ASSIGN ∷ []) ∷ (Part.LOGIC ∷ []) ∷ (Part.NEGATED ∷ [])
+    ∷ (Part.SUM ∷ Part.TEST_TAIL ∷ [])
+    ∷ (Part.SUM ∷ [])
+    ∷ (Part.TERM ∷ [])
+    ∷ (Part.BIT ∷ [])
+    ∷ (Part.NEG ∷ Part.ARRAY_TAIL ∷ [])
+    ∷ (Part.NEG ∷ [])
+    ∷ (Part.INC ∷ [])
+    ∷ (Part.POST ∷ Part.ADDRESS_TAIL ∷ Part.STEP_TAIL ∷ [])
+    ∷ (Part.POST ∷ Part.ADDRESS_TAIL ∷ [])
+    ∷ (Part.POST ∷ [])
+    ∷ (Part.PRIM ∷ [])
     ∷ []) level []
 
 abbrev pub loop : ℕ → List (Symbol Action)
-loop level =
-    get_or ((expression_tail ∷ [])
-    ∷ []
-    ∷ (logic_tail ∷ [])
+loop level = get_or ((Part.EXPRESSION_TAIL ∷ []) ∷ [] ∷ (Part.LOGIC_TAIL ∷ []) ∷ [] ∷ [] ∷ (Part.SUM_TAIL ∷ []) ∷ (Part.TERM_TAIL ∷ []) ∷ []
+    ∷ (Part.ARRAY_TAIL ∷ [])
     ∷ []
     ∷ []
-    ∷ (sum_tail ∷ [])
-    ∷ (term_tail ∷ [])
-    ∷ []
-    ∷ (array_tail ∷ [])
-    ∷ []
-    ∷ []
-    ∷ (step_tail ∷ [])
-    ∷ (address_tail ∷ [])
-    ∷ (post_tail ∷ [])
+    ∷ (Part.STEP_TAIL ∷ [])
+    ∷ (Part.ADDRESS_TAIL ∷ [])
+    ∷ (Part.POST_TAIL ∷ [])
     ∷ []) level []
 
 abbrev pub NotCalled : List ℕ → Type 0
@@ -68,67 +54,67 @@ free (atom ∷ atoms) = has_zero atom
 
 -- Lemmas about tails of a row that are empty
 pub no_expression_tail : {K : List (Symbol Action)} {atoms : List ℕ} {events : List (Event Action)} → IsText grammar K atoms events →
-    IsText grammar (expression_tail ∷ K) atoms events
+    IsText grammar (Part.EXPRESSION_TAIL ∷ K) atoms events
 unfolding grammar
 no_expression_tail l = row (later first) (free _) l
 
 pub no_logic_tail : {K : List (Symbol Action)} {atoms : List ℕ} {events : List (Event Action)} → IsText grammar K atoms events →
-    IsText grammar (logic_tail ∷ K) atoms events
+    IsText grammar (Part.LOGIC_TAIL ∷ K) atoms events
 unfolding grammar
 no_logic_tail l = row (later first) (free _) l
 
 pub no_sum_tail : {K : List (Symbol Action)} {atoms : List ℕ} {events : List (Event Action)} → IsText grammar K atoms events →
-    IsText grammar (sum_tail ∷ K) atoms events
+    IsText grammar (Part.SUM_TAIL ∷ K) atoms events
 unfolding grammar
 no_sum_tail l = row (later first) (free _) l
 
 pub no_term_tail : {K : List (Symbol Action)} {atoms : List ℕ} {events : List (Event Action)} → IsText grammar K atoms events →
-    IsText grammar (term_tail ∷ K) atoms events
+    IsText grammar (Part.TERM_TAIL ∷ K) atoms events
 unfolding grammar
 no_term_tail l = row (later first) (free _) l
 
 pub no_array_tail : {K : List (Symbol Action)} {atoms : List ℕ} {events : List (Event Action)} → IsText grammar K atoms events →
-    IsText grammar (array_tail ∷ K) atoms events
+    IsText grammar (Part.ARRAY_TAIL ∷ K) atoms events
 unfolding grammar
 no_array_tail l = row (later first) (free _) l
 
 pub no_step_tail : {K : List (Symbol Action)} {atoms : List ℕ} {events : List (Event Action)} → IsText grammar K atoms events →
-    IsText grammar (step_tail ∷ K) atoms events
+    IsText grammar (Part.STEP_TAIL ∷ K) atoms events
 unfolding grammar
 no_step_tail l = row (later first) (free _) l
 
 pub no_address_tail : {K : List (Symbol Action)} {atoms : List ℕ} {events : List (Event Action)} → IsText grammar K atoms events →
-    IsText grammar (address_tail ∷ K) atoms events
+    IsText grammar (Part.ADDRESS_TAIL ∷ K) atoms events
 unfolding grammar
 no_address_tail l = row (later first) (free _) l
 
 pub no_call_1 : {K : List (Symbol Action)} {atoms : List ℕ} {events : List (Event Action)} → IsText grammar K atoms events →
-    IsText grammar (call_1 ∷ K) atoms events
+    IsText grammar (Part.CALL_1 ∷ K) atoms events
 unfolding grammar
 no_call_1 l = row (later first) (free _) l
 
 pub no_call_2 : {K : List (Symbol Action)} {atoms : List ℕ} {events : List (Event Action)} → IsText grammar K atoms events →
-    IsText grammar (call_2 ∷ K) atoms events
+    IsText grammar (Part.CALL_2 ∷ K) atoms events
 unfolding grammar
 no_call_2 l = row (later first) (free _) l
 
 pub no_tested_1 : {K : List (Symbol Action)} {atoms : List ℕ} {events : List (Event Action)} → IsText grammar K atoms events →
-    IsText grammar (tested_1 ∷ K) atoms events
+    IsText grammar (Part.TESTED_1 ∷ K) atoms events
 unfolding grammar
 no_tested_1 l = row (later first) (free _) l
 
 pub no_test_tail : {K : List (Symbol Action)} {atoms : List ℕ} {events : List (Event Action)} → IsText grammar K atoms events →
-    IsText grammar (test_tail ∷ K) atoms events
+    IsText grammar (Part.TEST_TAIL ∷ K) atoms events
 unfolding grammar
 no_test_tail l = row first (free _) (row (later first) (free _) l)
 
 pub no_assign_tail : {K : List (Symbol Action)} {atoms : List ℕ} {events : List (Event Action)} → IsText grammar K atoms events →
-    IsText grammar (assign_tail ∷ K) atoms events
+    IsText grammar (Part.ASSIGN_TAIL ∷ K) atoms events
 unfolding grammar
 no_assign_tail l = row first (free _) (row (later first) (free _) l)
 
 pub no_post_tail : {K : List (Symbol Action)} {atoms : List ℕ} {events : List (Event Action)} → NotCalled atoms →
-    IsText grammar K atoms events → IsText grammar (post_tail ∷ K) atoms events
+    IsText grammar K atoms events → IsText grammar (Part.POST_TAIL ∷ K) atoms events
 unfolding grammar
 no_post_tail n l = row (later (later first)) n l
 
@@ -437,8 +423,8 @@ pub record Tested (op : Binary) (signs : ℕ) : Type 0 where
   pub effect : (s : State) → stepped (step_of act) s ≡ record s { sources = tested_by op s.counts s.sources; counts = behind s.counts }
   pub no_call : bit_and signs opening_sign ≡ 0
   pub enters : (K : List (Symbol Action)) (rest : List ℕ) (events : List (Event Action)) (atom : ℕ) → has signs atom ≡ true →
-      IsText grammar (sum ∷ !part ∷ tested_1 ∷ Symbol.Act act ∷ K) rest events →
-      IsText grammar (test_tail ∷ K) (atom ∷ rest) (Took atom ∷ Did Action.Count ∷ events)
+      IsText grammar (Part.SUM ∷ Part.DO_PART ∷ Part.TESTED_1 ∷ Symbol.Act act ∷ K) rest events →
+      IsText grammar (Part.TEST_TAIL ∷ K) (atom ∷ rest) (Took atom ∷ Did Action.Count ∷ events)
 
 equal_entry : Tested (Binary.Test Test.Equal) (of_mark Mark.Equal)
 unfolding grammar

@@ -70,8 +70,7 @@ looser {loose} {order} {place} {atoms} {a} (suc n) tight e w =
 
 pub loosened : {loose tight order place : ℕ} {atoms : List ℕ} {a : Source} → loose ≤ tight → Written tight order place atoms a →
     Written loose order place atoms a
-loosened {loose} {tight} {order} {place} {atoms} {a} le w =
-    looser (tight - loose) tight (omega (arith, le)) w
+loosened {loose} {tight} {order} {place} {atoms} {a} le w = looser (tight - loose) tight (omega (arith, le)) w
 
 pub weakened : {f : Frame} {items wider : List Item} {seen : List ℕ} {g : Gathering} → Stands f items seen g → Within items wider →
     Stands f wider seen g
@@ -112,27 +111,24 @@ leaves_count outer begun tokens (Leaf first token place) = refl
 leaves_count outer begun tokens (Brackets order a) = leaves_count outer begun tokens a
 leaves_count outer begun tokens (Prefix order op a) = leaves_count outer begun tokens a
 leaves_count outer begun tokens (Suffix op a) = leaves_count outer begun tokens a
-leaves_count outer begun tokens (Two op a b) =
-    omega (
-      arith,
-      length-append (leaves_of outer begun tokens a) (leaves_of outer begun tokens b),
-      leaves_count outer begun tokens a,
-      leaves_count outer begun tokens b,
-    )
-leaves_count outer begun tokens (Then a b) =
-    omega (
-      arith,
-      length-append (leaves_of outer begun tokens a) (leaves_of outer begun tokens b),
-      leaves_count outer begun tokens a,
-      leaves_count outer begun tokens b,
-    )
-leaves_count outer begun tokens (Call a b) =
-    omega (
-      arith,
-      length-append (leaves_of outer begun tokens a) (leaves_of outer begun tokens b),
-      leaves_count outer begun tokens a,
-      leaves_count outer begun tokens b,
-    )
+leaves_count outer begun tokens (Two op a b) = omega (
+  arith,
+  length-append (leaves_of outer begun tokens a) (leaves_of outer begun tokens b),
+  leaves_count outer begun tokens a,
+  leaves_count outer begun tokens b,
+)
+leaves_count outer begun tokens (Then a b) = omega (
+  arith,
+  length-append (leaves_of outer begun tokens a) (leaves_of outer begun tokens b),
+  leaves_count outer begun tokens a,
+  leaves_count outer begun tokens b,
+)
+leaves_count outer begun tokens (Call a b) = omega (
+  arith,
+  length-append (leaves_of outer begun tokens a) (leaves_of outer begun tokens b),
+  leaves_count outer begun tokens a,
+  leaves_count outer begun tokens b,
+)
 leaves_count outer begun tokens (Alone f) = leaves_count outer begun tokens f
 
 pub gained_leaves : (f : Frame) (a : Source) (g : Gathering) → length (gained f a g).leaves ≡ length g.leaves + leaf_count a

@@ -62,15 +62,13 @@ front_stands {f} {level} {signs} op e (whole _ atoms a g (read seen sign s h k) 
 pub suffix_stands : {f : Frame} {level signs : ℕ} {rest : List Item} {seen : List ℕ} {g : Gathering} (op : Unary) →
     sign_behind op ≡ Some (level, signs) →
     Stands f (Sign signs ∷ Whole level ∷ rest) seen g → Stands f (Whole level ∷ rest) seen (with_suffix op g)
-suffix_stands {f} {level} {signs} op e (read _ sign (whole seen atoms a g s w) h k) =
-    placed (to_left seen atoms (sign ∷ [])) (λ i. record {
-      leaves = g.leaves ++ leaves_of f.outer f.begun f.all a;
-      symbols = to_left g.symbols (symbols_of (is_open g.brackets) a) (Symbol.Suffix op ∷ []) i;
-      firsts = first_of a ∷ g.firsts;
-      counts = g.counts;
-      brackets = g.brackets;
-    })
-    (whole seen (atoms ++ sign ∷ []) (Suffix op a) g s (behind signs sign atoms e w h))
+suffix_stands {f} {level} {signs} op e (read _ sign (whole seen atoms a g s w) h k) = placed (to_left seen atoms (sign ∷ [])) (λ i. record {
+  leaves = g.leaves ++ leaves_of f.outer f.begun f.all a;
+  symbols = to_left g.symbols (symbols_of (is_open g.brackets) a) (Symbol.Suffix op ∷ []) i;
+  firsts = first_of a ∷ g.firsts;
+  counts = g.counts;
+  brackets = g.brackets;
+}) (whole seen (atoms ++ sign ∷ []) (Suffix op a) g s (behind signs sign atoms e w h))
 
 -- Two expressions with an operator between them
 four : {A : Type 0} (xs ys zs ws : List A) → xs ++ ((ys ++ zs) ++ ws) ≡ ((xs ++ ys) ++ zs) ++ ws
@@ -140,8 +138,7 @@ comma_stands {f} (whole _ right b _ (read _ sign (whole seen left a g s w) h k) 
 more_gained : (f : Frame) (a : Source) (sources : List Source) (b : Source) (g : Gathering) →
     length (a ∷ (sources ++ b ∷ [])) ≡ counted (length (a ∷ sources)) →
     with_parts f (a ∷ (sources ++ b ∷ [])) g ≡ with_part (gained f b (with_parts f (a ∷ sources) g))
-more_gained f a sources b g e =
-    ap (λ n. record (all_gained f (a ∷ (sources ++ b ∷ [])) g) { counts = n ∷ g.counts }) e
+more_gained f a sources b g e = ap (λ n. record (all_gained f (a ∷ (sources ++ b ∷ [])) g) { counts = n ∷ g.counts }) e
     ∙ ap (λ (x : Gathering). record x { counts = counted (length (a ∷ sources)) ∷ g.counts }) (all_gained_append f (a ∷ sources) b g)
 
 alone_gained : (f : Frame) (a : Source) (g : Gathering) → gained f (Alone a) g ≡ with_call (with_list (gained f a g))
@@ -217,16 +214,14 @@ one_stands {f} (whole seen atoms a _ (none_yet g s) w) = parts seen atoms a [] g
 pub more_stands : {f : Frame} {level signs : ℕ} {rest : List Item} {seen : List ℕ} {g : Gathering} → length seen < 4294967295 →
     Stands f (Whole level ∷ Sign signs ∷ Parts level signs ∷ rest) seen g → Stands f (Parts level signs ∷ rest) seen (with_part g)
 more_stands {f} {level} {signs} few (whole _ right b _ (read _ sign (parts seen left a sources g s l) h k) w) =
-    let count : length (a ∷ (sources ++ b ∷ [])) ≡ counted (length (a ∷ sources)) =
-    omega (arith, length-append sources (b ∷ []))
+    let count : length (a ∷ (sources ++ b ∷ [])) ≡ counted (length (a ∷ sources)) = omega (arith, length-append sources (b ∷ []))
     ∙ sym (cond_false_count (length (a ∷ sources))
     (omega (
       arith,
       few,
       parts_have_tokens l,
       length-append ((seen ++ left) ++ sign ∷ []) right,
-      length-append (seen ++ left)
-          (sign ∷ []),
+      length-append (seen ++ left) (sign ∷ []),
       length-append seen left,
     ))) in
     placed (three seen left sign right) (more_gained f a sources b g count)
@@ -272,8 +267,7 @@ closing_stands {f} (whole _ atoms a _ (opened seen left g s h) w) =
 
 pub closed_stands : {f : Frame} {rest : List Item} {seen : List ℕ} {g : Gathering} (right : ℕ) → has closing_sign right ≡ true →
     Stands f (Closing ∷ rest) seen g → Stands f (Whole primaries ∷ rest) (seen ++ right ∷ []) g
-closed_stands {f} right r (closing seen left atoms a g s h w) =
-    placed (sym (append_assoc seen (left ∷ atoms) (right ∷ []))) refl
+closed_stands {f} right r (closing seen left atoms a g s h w) = placed (sym (append_assoc seen (left ∷ atoms) (right ∷ []))) refl
     (whole seen (left ∷ (atoms ++ right ∷ [])) (Brackets (f.order + length seen) a) g s (brackets right atoms h w r))
 
 -- brackets where the closing one is taken before the action

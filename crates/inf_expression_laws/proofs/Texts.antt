@@ -8,9 +8,7 @@ use Rattle.inf_machine.proofs.Sets.{has_or, has_zero}
 use Rattle.inf_scanner.specs.declared.tokens.Mark.{Mark}
 use Rattle.inf_syntax.specs.{Classes.operand as operand_names, declared.actions.Action.Action}
 use Rattle.inf_syntax.specs.Atoms.{char, joined as joined_sets, number, of_mark, text, word_literal}
-use Rattle.inf_syntax.specs.Parts.{ !bracketed, !call, !negate, !part, 'close_parenthesis', address_tail, after_prim, after_unary}
-use Rattle.inf_syntax.specs.Parts.{array_tail, assign, assign_tail, call_1, call_2, expression, expression_tail, logic, logic_tail, neg}
-use Rattle.inf_syntax.specs.Parts.{post, post_tail, prim, step_prefix, step_tail, sum, sum_tail, term_tail, test_tail, tested_1}
+use Rattle.inf_syntax.specs.declared.parts.names.TheConstants as Part
 use Rattle.inf_expressions.specs.{Sources.Source, declared.operators.Binary.Binary}
 use Rattle.inf_unit.specs.{Steps.step_of, declared.steps.GatherStep.GatherStep}
 use Rattle.inf_grammar.specs.Language.{grammar}
@@ -61,34 +59,38 @@ under (s ∷ top) {below = below} {other = other} f
 
 -- An expression that may be assigned to is read as the row of assignments has it.
 after_unary_on : {K : List (Symbol Action)} (atoms : List ℕ) (events : List (Event Action)) →
-    IsText grammar (array_tail ∷ term_tail ∷ sum_tail ∷ test_tail ∷ logic_tail ∷ assign_tail ∷ K) atoms events → IsText grammar
-    (after_unary ∷ K) atoms events
+    IsText grammar (Part.ARRAY_TAIL ∷ Part.TERM_TAIL ∷ Part.SUM_TAIL ∷ Part.TEST_TAIL ∷ Part.LOGIC_TAIL ∷ Part.ASSIGN_TAIL ∷
+    K) atoms events → IsText grammar
+    (Part.AFTER_UNARY ∷ K) atoms events
 unfolding grammar
 after_unary_on atoms events l = row first (free atoms) l
 
 after_prim_on : {K : List (Symbol Action)} (atoms : List ℕ) (events : List (Event Action)) →
-    IsText grammar (post_tail ∷ address_tail ∷ step_tail ∷ array_tail ∷ term_tail ∷ sum_tail ∷ test_tail ∷ logic_tail ∷ assign_tail ∷ K)
-    atoms events → IsText grammar (after_prim ∷ K) atoms events
+    IsText grammar (Part.POST_TAIL ∷ Part.ADDRESS_TAIL ∷ Part.STEP_TAIL ∷ Part.ARRAY_TAIL ∷ Part.TERM_TAIL ∷ Part.SUM_TAIL ∷
+    Part.TEST_TAIL ∷ Part.LOGIC_TAIL ∷ Part.ASSIGN_TAIL ∷ K)
+    atoms events → IsText grammar (Part.AFTER_PRIM ∷ K) atoms events
 unfolding grammar
 after_prim_on atoms events l =
-    row first (free atoms) (under (post_tail ∷ address_tail ∷ step_tail ∷ []) after_unary_on l refl)
+    row first (free atoms) (under (Part.POST_TAIL ∷ Part.ADDRESS_TAIL ∷ Part.STEP_TAIL ∷ []) after_unary_on l refl)
 
 from_neg : {K : List (Symbol Action)} {atoms : List ℕ} {events : List (Event Action)} →
-    IsText grammar (neg ∷ array_tail ∷ term_tail ∷ sum_tail ∷ test_tail ∷ logic_tail ∷ assign_tail ∷ K) atoms events → IsText grammar
-    (assign ∷ K) atoms events
+    IsText grammar (Part.NEG ∷ Part.ARRAY_TAIL ∷ Part.TERM_TAIL ∷ Part.SUM_TAIL ∷ Part.TEST_TAIL ∷ Part.LOGIC_TAIL ∷ Part.ASSIGN_TAIL ∷
+    K) atoms events → IsText grammar
+    (Part.ASSIGN ∷ K) atoms events
 unfolding grammar
 from_neg (row first clear (token {atom = atom} h l)) =
-    row (later (later first)) (has_zero atom) (token h (under (neg ∷ !negate ∷ []) after_unary_on l refl))
+    row (later (later first)) (has_zero atom) (token h (under (Part.NEG ∷ Part.DO_NEGATE ∷ []) after_unary_on l refl))
 from_neg {atoms = atoms} (row (later first) clear (row first plain l)) =
-    row (later first) (free atoms) (row (later (later first)) (free atoms) (under (step_prefix ∷ []) after_unary_on l refl))
+    row (later first) (free atoms) (row (later (later first)) (free atoms) (under (Part.STEP_PREFIX ∷ []) after_unary_on l refl))
 from_neg {atoms = atoms} (row (later first) clear (row (later first) plain (row first wide l))) =
-    row first (free atoms) (under (prim ∷ []) after_prim_on l refl)
+    row first (free atoms) (under (Part.PRIM ∷ []) after_prim_on l refl)
 from_neg (row (later first) clear (row (later first) plain (row (later m) wide l))) = elim m [ ]
 from_neg (row (later first) clear (row (later (later m)) plain l)) = elim m [ ]
 from_neg (row (later (later m)) clear l) = elim m [ ]
 
 from_sum : {K : List (Symbol Action)} {atoms : List ℕ} {events : List (Event Action)} →
-    IsText grammar (sum ∷ test_tail ∷ logic_tail ∷ assign_tail ∷ K) atoms events → IsText grammar (assign ∷ K) atoms events
+    IsText grammar (Part.SUM ∷ Part.TEST_TAIL ∷ Part.LOGIC_TAIL ∷ Part.ASSIGN_TAIL ∷ K) atoms events → IsText grammar (Part.ASSIGN ∷
+    K) atoms events
 unfolding grammar
 from_sum (row first clear (row first plain (row first wide (token {atom = atom} h l)))) =
     row (later first) (has_zero atom) (row (later first) (has_zero atom) (token h l))
@@ -98,7 +100,7 @@ from_sum (row first clear (row (later m) plain l)) = elim m [ ]
 from_sum (row (later m) clear l) = elim m [ ]
 
 as_assign : {K : List (Symbol Action)} {atoms : List ℕ} {events : List (Event Action)} →
-    IsText grammar (logic ∷ assign_tail ∷ K) atoms events → IsText grammar (assign ∷ K) atoms events
+    IsText grammar (Part.LOGIC ∷ Part.ASSIGN_TAIL ∷ K) atoms events → IsText grammar (Part.ASSIGN ∷ K) atoms events
 unfolding grammar
 as_assign (row first clear (row first plain (token {atom = atom} h l))) =
     row (later first) (has_zero atom) (row first (has_zero atom) (token h l))
@@ -117,32 +119,36 @@ record Climb (level : ℕ) (K : List (Symbol Action)) (rest : List ℕ) (events 
 climb : (level : ℕ) → level < 14 → (K : List (Symbol Action)) (rest : List ℕ) (events : List (Event Action)) →
     (level ≤ 12 → NotCalled rest) → IsText grammar (loop level ++ K) rest events → Climb level K rest events
 unfolding grammar
-climb zero less K rest events q l = record { under = expression_tail ∷ K; after = l; back = λ atoms all l. row first (free atoms) l }
+climb zero less K rest events q l = record { under = Part.EXPRESSION_TAIL ∷ K; after = l; back = λ atoms all l. row first (free atoms) l }
 climb (suc zero) less K rest events q l =
-    record { under = assign_tail ∷ K; after = no_logic_tail (no_assign_tail l); back = λ atoms all l. as_assign l }
-climb (suc (suc zero)) less K rest events q l = record { under = logic_tail ∷ K; after = l; back = λ atoms all l. row first (free atoms) l }
+    record { under = Part.ASSIGN_TAIL ∷ K; after = no_logic_tail (no_assign_tail l); back = λ atoms all l. as_assign l }
+climb (suc (suc zero)) less K rest events q l = record {
+  under = Part.LOGIC_TAIL ∷ K;
+  after = l;
+  back = λ atoms all l. row first (free atoms) l;
+}
 climb (suc (suc (suc zero))) less K rest events q l =
     record { under = K; after = l; back = λ atoms all l. row (later first) (free atoms) l }
 climb (suc (suc (suc (suc zero)))) less K rest events q l =
-    record { under = test_tail ∷ K; after = no_sum_tail (no_test_tail l); back = λ atoms all l. l }
+    record { under = Part.TEST_TAIL ∷ K; after = no_sum_tail (no_test_tail l); back = λ atoms all l. l }
 climb (suc (suc (suc (suc (suc zero))))) less K rest events q l =
-    record { under = sum_tail ∷ K; after = no_term_tail l; back = λ atoms all l. row first (free atoms) l }
+    record { under = Part.SUM_TAIL ∷ K; after = no_term_tail l; back = λ atoms all l. row first (free atoms) l }
 climb (suc (suc (suc (suc (suc (suc zero)))))) less K rest events q l =
-    record { under = term_tail ∷ K; after = l; back = λ atoms all l. row first (free atoms) l }
+    record { under = Part.TERM_TAIL ∷ K; after = l; back = λ atoms all l. row first (free atoms) l }
 climb (suc (suc (suc (suc (suc (suc (suc zero))))))) less K rest events q l =
     record { under = K; after = no_array_tail l; back = λ atoms all l. row (later first) (free atoms) l }
 climb (suc (suc (suc (suc (suc (suc (suc (suc zero)))))))) less K rest events q l =
-    record { under = array_tail ∷ K; after = l; back = λ atoms all l. l }
+    record { under = Part.ARRAY_TAIL ∷ K; after = l; back = λ atoms all l. l }
 climb (suc (suc (suc (suc (suc (suc (suc (suc (suc zero))))))))) less K rest events q l =
     record { under = K; after = l; back = λ atoms all l. row (later first) (free atoms) l }
 climb (suc (suc (suc (suc (suc (suc (suc (suc (suc (suc zero)))))))))) less K rest events q l =
     record { under = K; after = no_step_tail l; back = λ atoms all l. row (later first) (free atoms) l }
 climb (suc (suc (suc (suc (suc (suc (suc (suc (suc (suc (suc zero))))))))))) less K rest events q l =
-    record { under = step_tail ∷ K; after = no_address_tail l; back = λ atoms all l. l }
+    record { under = Part.STEP_TAIL ∷ K; after = no_address_tail l; back = λ atoms all l. l }
 climb (suc (suc (suc (suc (suc (suc (suc (suc (suc (suc (suc (suc zero)))))))))))) less K rest events q l =
-    record { under = address_tail ∷ K; after = no_post_tail (q (omega arith)) l; back = λ atoms all l. l }
+    record { under = Part.ADDRESS_TAIL ∷ K; after = no_post_tail (q (omega arith)) l; back = λ atoms all l. l }
 climb (suc (suc (suc (suc (suc (suc (suc (suc (suc (suc (suc (suc (suc zero))))))))))))) less K rest events q l =
-    record { under = post_tail ∷ K; after = l; back = λ atoms all l. row first (free atoms) l }
+    record { under = Part.POST_TAIL ∷ K; after = l; back = λ atoms all l. row first (free atoms) l }
 climb (suc (suc (suc (suc (suc (suc (suc (suc (suc (suc (suc (suc (suc (suc n)))))))))))))) less K rest events q l =
     absurd (omega (arith, less))
 
@@ -159,7 +165,7 @@ level_bound other = omega arith
 record LeafText (K : List (Symbol Action)) (rest : List ℕ) (events : List (Event Action)) (atom : ℕ) : Type 0 where
   act : Action
   is : step_of act ≡ Some GatherStep.Leaf
-  leads : IsText grammar (prim ∷ K) (atom ∷ rest) (Took atom ∷ Did act ∷ events)
+  leads : IsText grammar (Part.PRIM ∷ K) (atom ∷ rest) (Took atom ∷ Did act ∷ events)
 
 leaf_text : (K : List (Symbol Action)) (rest : List ℕ) (events : List (Event Action)) (atom : ℕ) → has operands atom ≡ true →
     IsText grammar K rest events → LeafText K rest events atom
@@ -173,8 +179,7 @@ leaf_text K rest events atom h l =
             | inl e ↦ record {
               act = Action.Number;
               is = refl;
-              leads = row (later first) (has_zero atom)
-                  (row first (has_zero atom) (row first (has_zero atom) (token e (action l))));
+              leads = row (later first) (has_zero atom) (row first (has_zero atom) (row first (has_zero atom) (token e (action l))));
             }
             | inr others ↦ elim (or_cases (has char atom) (has (joined_sets (word_literal ∷ text ∷ [])) atom)
                 (sym (has_or char (joined_sets (word_literal ∷ text ∷ [])) atom) ∙ others)) [
@@ -195,8 +200,7 @@ leaf_text K rest events atom h l =
                         | inr e ↦ record {
                           act = Action.Text;
                           is = refl;
-                          leads = row (later first) (has_zero atom)
-                              (row (later first) (has_zero atom) (token e (action l)));
+                          leads = row (later first) (has_zero atom) (row (later first) (has_zero atom) (token e (action l)));
                         }
                       ]
                 ]
@@ -205,7 +209,7 @@ leaf_text K rest events atom h l =
 
 action_text : {K : List (Symbol Action)} {rest : List ℕ} {events : List (Event Action)} (sign atom : ℕ) →
     has (of_mark Mark.DoubleHash) sign ≡ true → has operand_names atom ≡ true →
-    IsText grammar K rest events → IsText grammar (prim ∷ K) (sign ∷ atom ∷ rest) (Took sign ∷ Took atom ∷ Did Action.Action ∷ events)
+    IsText grammar K rest events → IsText grammar (Part.PRIM ∷ K) (sign ∷ atom ∷ rest) (Took sign ∷ Took atom ∷ Did Action.Action ∷ events)
 unfolding grammar
 action_text sign atom h k l =
     row (later first) (has_zero sign) (row first (has_zero sign) (row (later (later (later first))) (has_zero sign)
@@ -213,48 +217,53 @@ action_text sign atom h k l =
 
 system_text : {K : List (Symbol Action)} {rest : List ℕ} {events : List (Event Action)} (sign atom : ℕ) →
     has (of_mark Mark.Hash) sign ≡ true → has operand_names atom ≡ true →
-    IsText grammar K rest events → IsText grammar (prim ∷ K) (sign ∷ atom ∷ rest) (Took sign ∷ Took atom ∷ Did Action.System ∷ events)
+    IsText grammar K rest events → IsText grammar (Part.PRIM ∷ K) (sign ∷ atom ∷ rest) (Took sign ∷ Took atom ∷ Did Action.System ∷ events)
 unfolding grammar
 system_text sign atom h k l =
     row (later first) (has_zero sign) (row first (has_zero sign) (row (later (later (later (later first)))) (has_zero sign)
     (token h (token k (action l)))))
 
 bracket_text : {K : List (Symbol Action)} {rest : List ℕ} {events : List (Event Action)} (left : ℕ) → has opening_sign left ≡ true →
-    IsText grammar (expression ∷ !bracketed ∷ 'close_parenthesis' ∷ K) rest events → IsText grammar (prim ∷ K) (left ∷ rest)
+    IsText grammar (Part.EXPRESSION ∷ Part.DO_BRACKETED ∷ Part.CLOSE_PARENTHESIS ∷ K) rest events → IsText grammar (Part.PRIM ∷ K) (left ∷
+    rest)
     (Took left ∷ Did Action.Bracket ∷ events)
 unfolding grammar
 bracket_text left h l =
     row (later first) (has_zero left) (row (later (later first)) (has_zero left) (row first (has_zero left) (token h (action l))))
 
 closing_text : {K : List (Symbol Action)} {rest : List ℕ} {events : List (Event Action)} (right : ℕ) → has closing_sign right ≡ true →
-    IsText grammar K rest events → IsText grammar ('close_parenthesis' ∷ K) (right ∷ rest) (Took right ∷ events)
+    IsText grammar K rest events → IsText grammar (Part.CLOSE_PARENTHESIS ∷ K) (right ∷ rest) (Took right ∷ events)
 unfolding grammar
 closing_text right h l = token h l
 
 call_text : {K : List (Symbol Action)} {rest : List ℕ} {events : List (Event Action)} (left : ℕ) → has opening_sign left ≡ true →
-    IsText grammar (call_1 ∷ 'close_parenthesis' ∷ !call ∷ post_tail ∷ K) rest events → IsText grammar (post_tail ∷ K) (left ∷ rest)
+    IsText grammar (Part.CALL_1 ∷ Part.CLOSE_PARENTHESIS ∷ Part.DO_CALL ∷ Part.POST_TAIL ∷
+    K) rest events → IsText grammar (Part.POST_TAIL ∷ K) (left ∷ rest)
     (Took left ∷ Did Action.Count ∷ events)
 unfolding grammar
 call_text left h l = row (later first) (has_zero left) (row first (has_zero left) (token h (action l)))
 
 some_call : {K : List (Symbol Action)} {rest : List ℕ} {events : List (Event Action)} →
-    IsText grammar (assign ∷ !part ∷ call_2 ∷ K) rest events → IsText grammar (call_1 ∷ K) rest events
+    IsText grammar (Part.ASSIGN ∷ Part.DO_PART ∷ Part.CALL_2 ∷ K) rest events → IsText grammar (Part.CALL_1 ∷ K) rest events
 unfolding grammar
 some_call {rest = rest} l = row first (free rest) l
 
 next_call : {K : List (Symbol Action)} {rest : List ℕ} {events : List (Event Action)} (sign : ℕ) → has comma_sign sign ≡ true →
-    IsText grammar (assign ∷ !part ∷ call_2 ∷ K) rest events → IsText grammar (call_2 ∷ K) (sign ∷ rest) (Took sign ∷ events)
+    IsText grammar (Part.ASSIGN ∷ Part.DO_PART ∷ Part.CALL_2 ∷ K) rest events → IsText grammar (Part.CALL_2 ∷ K) (sign ∷
+    rest) (Took sign ∷ events)
 unfolding grammar
 next_call sign h l = row first (has_zero sign) (token h l)
 
 next_test : {K : List (Symbol Action)} {rest : List ℕ} {events : List (Event Action)} (sign : ℕ) → has or_sign sign ≡ true →
-    IsText grammar (sum ∷ !part ∷ tested_1 ∷ K) rest events → IsText grammar (tested_1 ∷ K) (sign ∷ rest) (Took sign ∷ events)
+    IsText grammar (Part.SUM ∷ Part.DO_PART ∷ Part.TESTED_1 ∷ K) rest events → IsText grammar (Part.TESTED_1 ∷ K) (sign ∷
+    rest) (Took sign ∷ events)
 unfolding grammar
 next_test sign h l = row first (has_zero sign) (token h l)
 
 assigned_text : {K : List (Symbol Action)} {rest : List ℕ} {events : List (Event Action)} (sign : ℕ) →
     has (of_mark Mark.Assign) sign ≡ true →
-    IsText grammar (assign ∷ Symbol.Act Action.Assign ∷ K) rest events → IsText grammar (assign_tail ∷ K) (sign ∷ rest) (Took sign ∷ events)
+    IsText grammar (Part.ASSIGN ∷ Symbol.Act Action.Assign ∷ K) rest events → IsText grammar (Part.ASSIGN_TAIL ∷ K) (sign ∷
+    rest) (Took sign ∷ events)
 unfolding grammar
 assigned_text sign h l = row first (has_zero sign) (row first (has_zero sign) (token h l))
 
@@ -263,8 +272,7 @@ no_call_of sign signs e h = apart signs e sign h
 
 given_atoms : (atoms given : List ℕ) (left right : ℕ) (rest : List ℕ) →
     atoms ++ left ∷ (given ++ right ∷ rest) ≡ (((atoms ++ left ∷ []) ++ given) ++ right ∷ []) ++ rest
-given_atoms atoms given left right rest =
-    sym (append_assoc atoms (left ∷ []) (given ++ right ∷ rest))
+given_atoms atoms given left right rest = sym (append_assoc atoms (left ∷ []) (given ++ right ∷ rest))
     ∙ sym (append_assoc (atoms ++ left ∷ []) given (right ∷ rest))
     ∙ sym (append_assoc ((atoms ++ left ∷ []) ++ given) (right ∷ []) rest)
 
@@ -302,19 +310,17 @@ mutual
       record {
         events = λ more. Took sign ∷ Took atom ∷ Did Action.Action ∷ more;
         leads = action_text sign atom h k l;
-        builds = action_builds
-            order place sign atom;
+        builds = action_builds order place sign atom;
       }
   written_text (written.system {order = order} {place = place} {sign = sign} {atom = atom} h k) K rest last q l =
       record {
         events = λ more. Took sign ∷ Took atom ∷ Did Action.System ∷ more;
         leads = system_text sign atom h k l;
-        builds = system_builds
-            order place sign atom;
+        builds = system_builds order place sign atom;
       }
   written_text (written.brackets {order = order} {place = place} {left = left} right atoms {a = a} h w k) K rest last q l =
       let not_called = no_call_of right closing_sign refl k in
-      let t = written_text w (!bracketed ∷ 'close_parenthesis' ∷ K) (right ∷ rest) (Did Action.Bracketed ∷ Took right ∷ last)
+      let t = written_text w (Part.DO_BRACKETED ∷ Part.CLOSE_PARENTHESIS ∷ K) (right ∷ rest) (Did Action.Bracketed ∷ Took right ∷ last)
       (λ le. not_called) (no_expression_tail (action (closing_text right k l))) in
       record {
         events = λ more. Took left ∷ Did Action.Bracket ∷ t.events (Did Action.Bracketed ∷ Took right ∷ more);
@@ -359,7 +365,7 @@ mutual
       }
   written_text (written.assigned {order = order} {place = place} sign left right {a = a} {b = b} w h v) K rest last q l =
       let u = written_text v (Symbol.Act Action.Assign ∷ K) rest (Did Action.Assign ∷ last) q (action l) in
-      let t = written_text w (assign_tail ∷ K) (sign ∷ (right ++ rest)) (Took sign ∷ u.events (Did Action.Assign ∷ last))
+      let t = written_text w (Part.ASSIGN_TAIL ∷ K) (sign ∷ (right ++ rest)) (Took sign ∷ u.events (Did Action.Assign ∷ last))
       (λ le. no_call_of sign (of_mark Mark.Assign) refl h)
       (no_logic_tail (assigned_text sign h u.leads)) in
       record {
@@ -370,7 +376,7 @@ mutual
   written_text (written.tested {order = order} {place = place} signs sign left right {op = op} {a = a} b sources e w h v) K rest last q l =
       let n = test_entry op signs e in
       let u = or_text v (Symbol.Act n.act ∷ K) rest (Did n.act ∷ last) (q (omega arith)) (no_tested_1 (action l)) in
-      let t = written_text w (test_tail ∷ K) (sign ∷ (right ++ rest)) (Took sign ∷ Did Action.Count ∷ u.events (Did n.act ∷ last))
+      let t = written_text w (Part.TEST_TAIL ∷ K) (sign ∷ (right ++ rest)) (Took sign ∷ Did Action.Count ∷ u.events (Did n.act ∷ last))
       (λ le. no_call_of sign signs n.no_call h)
       (no_sum_tail (n.enters K (right ++ rest) (u.events (Did n.act ∷ last)) sign h u.leads)) in
       record {
@@ -379,7 +385,7 @@ mutual
         builds = test_builds op n.act n.effect order place sign left right a b sources t.events u.events t.builds u.lists;
       }
   written_text (written.called {order = order} {place = place} left right atoms given {f = f} b sources w h v k) K rest last q l =
-      let u = comma_text v ('close_parenthesis' ∷ !call ∷ post_tail ∷ K) (right ∷ rest) (Took right ∷ Did Action.Call ∷ last)
+      let u = comma_text v (Part.CLOSE_PARENTHESIS ∷ Part.DO_CALL ∷ Part.POST_TAIL ∷ K) (right ∷ rest) (Took right ∷ Did Action.Call ∷ last)
       (no_call_of right closing_sign refl k)
       (no_call_2 (closing_text right k (action l))) in
       let t =
@@ -388,7 +394,7 @@ mutual
       (call_text left h (some_call u.leads)) in
       record {
         events = λ more. t.events (Took left ∷ Did Action.Count ∷ u.events (Took right ∷ Did Action.Call ∷ more));
-        leads = subst (λ all. IsText grammar (post ∷ K) all
+        leads = subst (λ all. IsText grammar (Part.POST ∷ K) all
             (t.events (Took left ∷ Did Action.Count ∷ u.events (Took right ∷ Did Action.Call ∷ last))))
             (given_atoms atoms given left right rest) t.leads;
         builds = call_builds order place left right atoms given f b sources t.events u.events t.builds u.lists;
@@ -399,24 +405,25 @@ mutual
       (call_text left h (no_call_1 (closing_text right k (action l)))) in
       record {
         events = λ more. t.events (Took left ∷ Did Action.Count ∷ Took right ∷ Did Action.Call ∷ more);
-        leads = subst (λ all. IsText grammar (post ∷ K) all (t.events (Took left ∷ Did Action.Count ∷ Took right ∷ Did Action.Call ∷ last)))
+        leads = subst (λ all. IsText grammar (Part.POST ∷ K) all (t.events (Took left ∷ Did Action.Count ∷ Took right ∷ Did Action.Call ∷
+            last)))
             (alone_atoms atoms left right rest) t.leads;
         builds = alone_builds order place left right atoms f t.events t.builds;
       }
 
   or_text : {order place : ℕ} {atoms : List ℕ} {parts : List Source} → Listed sums or_sign order place atoms parts →
       (K : List (Symbol Action)) (rest : List ℕ) (last : List (Event Action)) →
-      NotCalled rest → IsText grammar (tested_1 ∷ K) rest last → ListText (sum ∷ !part ∷ tested_1 ∷ K) atoms rest last order place parts
+      NotCalled rest → IsText grammar (Part.TESTED_1 ∷ K) rest last → ListText (Part.SUM ∷ Part.DO_PART ∷ Part.TESTED_1 ∷
+      K) atoms rest last order place parts
   or_text (written.one {order = order} {place = place} {atoms = atoms} {a = a} w) K rest last q l =
-      let t = written_text w (!part ∷ tested_1 ∷ K) rest (Did Action.Part ∷ last) (λ le. q) (no_sum_tail (action l)) in
+      let t = written_text w (Part.DO_PART ∷ Part.TESTED_1 ∷ K) rest (Did Action.Part ∷ last) (λ le. q) (no_sum_tail (action l)) in
       record {
         events = λ more. t.events (Did Action.Part ∷ more);
         leads = t.leads;
-        lists = one_lists order place (length atoms) a t.events
-            t.builds;
+        lists = one_lists order place (length atoms) a t.events t.builds;
       }
   or_text (written.more {order = order} {place = place} sign left right sources a f h w) K rest last q l =
-      let u = written_text w (!part ∷ tested_1 ∷ K) rest (Did Action.Part ∷ last) (λ le. q) (no_sum_tail (action l)) in
+      let u = written_text w (Part.DO_PART ∷ Part.TESTED_1 ∷ K) rest (Did Action.Part ∷ last) (λ le. q) (no_sum_tail (action l)) in
       let t = or_text f K (sign ∷ (right ++ rest)) (Took sign ∷ u.events (Did Action.Part ∷ last)) (no_call_of sign or_sign refl h)
       (next_test sign h u.leads) in
       record {
@@ -427,17 +434,17 @@ mutual
 
   comma_text : {order place : ℕ} {atoms : List ℕ} {parts : List Source} → Listed assignments comma_sign order place atoms parts →
       (K : List (Symbol Action)) (rest : List ℕ) (last : List (Event Action)) →
-      NotCalled rest → IsText grammar (call_2 ∷ K) rest last → ListText (assign ∷ !part ∷ call_2 ∷ K) atoms rest last order place parts
+      NotCalled rest → IsText grammar (Part.CALL_2 ∷ K) rest last → ListText (Part.ASSIGN ∷ Part.DO_PART ∷ Part.CALL_2 ∷
+      K) atoms rest last order place parts
   comma_text (written.one {order = order} {place = place} {atoms = atoms} {a = a} w) K rest last q l =
-      let t = written_text w (!part ∷ call_2 ∷ K) rest (Did Action.Part ∷ last) (λ le. q) (action l) in
+      let t = written_text w (Part.DO_PART ∷ Part.CALL_2 ∷ K) rest (Did Action.Part ∷ last) (λ le. q) (action l) in
       record {
         events = λ more. t.events (Did Action.Part ∷ more);
         leads = t.leads;
-        lists = one_lists order place (length atoms) a t.events
-            t.builds;
+        lists = one_lists order place (length atoms) a t.events t.builds;
       }
   comma_text (written.more {order = order} {place = place} sign left right sources a f h w) K rest last q l =
-      let u = written_text w (!part ∷ call_2 ∷ K) rest (Did Action.Part ∷ last) (λ le. q) (action l) in
+      let u = written_text w (Part.DO_PART ∷ Part.CALL_2 ∷ K) rest (Did Action.Part ∷ last) (λ le. q) (action l) in
       let t = comma_text f K (sign ∷ (right ++ rest)) (Took sign ∷ u.events (Did Action.Part ∷ last)) (no_call_of sign comma_sign refl h)
       (next_call sign h u.leads) in
       record {
@@ -451,7 +458,7 @@ mutual
 pub expressions_are_texts : ExpressionsAreTexts
 expressions_are_texts order place atoms a w =
     let t = written_text w [] [] [] (λ le. tt) (no_expression_tail here) in
-    (t.events [], subst (λ all. IsText grammar (expression ∷ []) all (t.events [])) (append-nil atoms) t.leads)
+    (t.events [], subst (λ all. IsText grammar (Part.EXPRESSION ∷ []) all (t.events [])) (append-nil atoms) t.leads)
 
 abbrev rule_number : Symbol Action → ℕ
 rule_number (Symbol.Rule rule) = rule
@@ -467,5 +474,5 @@ texts_are_one_expression level order place atoms a b w v =
     let s : State = record { sources = []; counts = []; brackets = []; order = order; place = place } in
     let one = written_text {level = 0} (loosened (omega arith) w) [] [] [] (λ le. tt) (no_expression_tail here) in
     let two = written_text {level = 0} (loosened (omega arith) v) [] [] [] (λ le. tt) (no_expression_tail here) in
-    let same = same_events (rule_number expression) (atoms ++ []) (one.events []) (two.events []) one.leads two.leads in
+    let same = same_events (rule_number Part.EXPRESSION) (atoms ++ []) (one.events []) (two.events []) one.leads two.leads in
     ap (λ (x : State). latest_of a x.sources) (sym (one.builds s refl refl []) ∙ ap (λ es. built es s) same ∙ two.builds s refl refl [])

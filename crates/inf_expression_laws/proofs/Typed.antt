@@ -7,12 +7,7 @@ use Rattle.inf_machine.specs.{Decided.is_within, Pieces.all_rows, declared.symbo
 use Rattle.inf_machine.specs.Grammar.{Row, IsOneOf, first, later}
 use Rattle.inf_scanner.specs.declared.tokens.Mark.{Mark}
 use Rattle.inf_syntax.specs.{Atoms.of_mark, Classes.operand, declared.actions.Action.Action}
-use Rattle.inf_syntax.specs.Parts.{address_operator, address_tail, after_prim, after_unary, array_operator, array_tail, assign, assign_tail}
-use Rattle.inf_syntax.specs.Parts.{assign_tail_1, bare_prim, bit, bracketed, call, call_1, call_2, entry, expression, expression_tail, inc}
-use Rattle.inf_syntax.specs.Parts.{inner_operator, logic, logic_operator, logic_tail, member_operator, neg, negated, operator, other_assign}
-use Rattle.inf_syntax.specs.Parts.{other_operator, other_prim, outer_operator, plain_prim, post, post_tail, prefixed, prim, step_operator}
-use Rattle.inf_syntax.specs.Parts.{step_prefix, step_tail, sum, sum_operator, sum_tail, term, term_operator, term_tail, test, test_tail}
-use Rattle.inf_syntax.specs.Parts.{test_tail_1, tested, tested_1}
+use Rattle.inf_syntax.specs.declared.parts.names.TheConstants as Part
 use Rattle.inf_expressions.specs.declared.operators.Binary.{Binary}
 use Rattle.inf_unit.specs.{Steps.step_of, declared.steps.GatherStep.GatherStep}
 use Rattle.inf_grammar.specs.{Evaluated.rows_past, Language.grammar}
@@ -66,8 +61,7 @@ step_changes (Some (GatherStep.Suffix op)) = suffix_changes (sign_behind op)
 step_changes (Some (GatherStep.Two op)) = two_changes op
 step_changes (Some GatherStep.Comma) = change (Whole assignments ∷ Sign comma_sign ∷ Whole commas ∷ []) (Whole commas ∷ []) ∷ []
 step_changes (Some GatherStep.List) = change [] (NoneYet ∷ []) ∷ []
-step_changes (Some GatherStep.Part) =
-    change (Whole sums ∷ NoneYet ∷ []) (Parts sums or_sign ∷ [])
+step_changes (Some GatherStep.Part) = change (Whole sums ∷ NoneYet ∷ []) (Parts sums or_sign ∷ [])
     ∷ change (Whole assignments ∷ NoneYet ∷ []) (Parts assignments comma_sign ∷ [])
     ∷ change (Whole sums ∷ Sign or_sign ∷ Parts sums or_sign ∷ []) (Parts sums or_sign ∷ [])
     ∷ change (Whole assignments ∷ Sign comma_sign ∷ Parts assignments comma_sign ∷ []) (Parts assignments comma_sign ∷ [])
@@ -88,57 +82,55 @@ abbrev typing : Symbol Action → List Item → List Item → Typing
 typing rule old now = record { rule = rule; change = change old now }
 
 abbrev typings : List Typing
-typings =
-    typing expression [] (Whole commas ∷ [])
-    ∷ typing expression_tail (Whole commas ∷ []) (Whole commas ∷ [])
-    ∷ typing assign [] (Whole assignments ∷ [])
-    ∷ typing entry [] (Whole negations ∷ [])
-    ∷ typing bare_prim [] (Whole primaries ∷ [])
-    ∷ typing other_assign [] (Whole assignments ∷ [])
-    ∷ typing prefixed [] (Whole assignments ∷ [])
-    ∷ typing assign_tail (Whole connections ∷ []) (Whole assignments ∷ [])
-    ∷ typing assign_tail_1 (Whole connections ∷ []) (Whole assignments ∷ [])
-    ∷ typing logic [] (Whole connections ∷ [])
-    ∷ typing logic_tail (Whole connections ∷ []) (Whole connections ∷ [])
-    ∷ typing logic_operator (Whole connections ∷ []) (Whole connections ∷ [])
-    ∷ typing negated [] (Whole denials ∷ [])
-    ∷ typing test_tail (Whole sums ∷ []) (Whole tests ∷ [])
-    ∷ typing test_tail_1 (Whole sums ∷ []) (Whole tests ∷ [])
-    ∷ typing test (Whole sums ∷ []) (Whole tests ∷ [])
-    ∷ typing tested [] (Parts sums or_sign ∷ [])
-    ∷ typing tested_1 (Parts sums or_sign ∷ []) (Parts sums or_sign ∷ [])
-    ∷ typing sum [] (Whole sums ∷ [])
-    ∷ typing sum_tail (Whole sums ∷ []) (Whole sums ∷ [])
-    ∷ typing sum_operator (Whole sums ∷ []) (Whole sums ∷ [])
-    ∷ typing term [] (Whole products ∷ [])
-    ∷ typing term_tail (Whole products ∷ []) (Whole products ∷ [])
-    ∷ typing term_operator (Whole products ∷ []) (Whole products ∷ [])
-    ∷ typing bit [] (Whole complements ∷ [])
-    ∷ typing array_tail (Whole entries ∷ []) (Whole entries ∷ [])
-    ∷ typing array_operator (Whole entries ∷ []) (Whole entries ∷ [])
-    ∷ typing neg [] (Whole negations ∷ [])
-    ∷ typing inc [] (Whole steps_in_front ∷ [])
-    ∷ typing step_prefix [] (Whole steps_in_front ∷ [])
-    ∷ typing step_tail (Whole steps_behind ∷ []) (Whole steps_behind ∷ [])
-    ∷ typing step_operator (Whole steps_behind ∷ []) (Whole steps_behind ∷ [])
-    ∷ typing address_tail (Whole addresses ∷ []) (Whole addresses ∷ [])
-    ∷ typing address_operator (Whole addresses ∷ []) (Whole addresses ∷ [])
-    ∷ typing post [] (Whole members ∷ [])
-    ∷ typing post_tail (Whole members ∷ []) (Whole members ∷ [])
-    ∷ typing call (Whole members ∷ []) (Whole members ∷ [])
-    ∷ typing call_1 (NoneYet ∷ []) (Any assignments comma_sign ∷ [])
-    ∷ typing call_2 (Parts assignments comma_sign ∷ []) (Parts assignments comma_sign ∷ [])
-    ∷ typing prim [] (Whole primaries ∷ [])
-    ∷ typing other_prim [] (Whole primaries ∷ [])
-    ∷ typing bracketed [] (Whole primaries ∷ [])
-    ∷ typing plain_prim [] (Whole primaries ∷ [])
-    ∷ typing after_prim (Whole members ∷ []) (Whole assignments ∷ [])
-    ∷ typing after_unary (Whole entries ∷ []) (Whole assignments ∷ [])
-    ∷ typing operator (Whole members ∷ []) (Whole assignments ∷ [])
-    ∷ typing other_operator (Whole members ∷ []) (Whole assignments ∷ [])
-    ∷ typing inner_operator (Whole members ∷ []) (Whole steps_behind ∷ [])
-    ∷ typing member_operator (Whole members ∷ []) (Whole steps_behind ∷ [])
-    ∷ typing outer_operator (Whole entries ∷ []) (Whole assignments ∷ [])
+typings = typing Part.EXPRESSION [] (Whole commas ∷ []) ∷ typing Part.EXPRESSION_TAIL (Whole commas ∷ []) (Whole commas ∷ [])
+    ∷ typing Part.ASSIGN [] (Whole assignments ∷ [])
+    ∷ typing Part.ENTRY [] (Whole negations ∷ [])
+    ∷ typing Part.BARE_PRIM [] (Whole primaries ∷ [])
+    ∷ typing Part.OTHER_ASSIGN [] (Whole assignments ∷ [])
+    ∷ typing Part.PREFIXED [] (Whole assignments ∷ [])
+    ∷ typing Part.ASSIGN_TAIL (Whole connections ∷ []) (Whole assignments ∷ [])
+    ∷ typing Part.ASSIGN_TAIL_1 (Whole connections ∷ []) (Whole assignments ∷ [])
+    ∷ typing Part.LOGIC [] (Whole connections ∷ [])
+    ∷ typing Part.LOGIC_TAIL (Whole connections ∷ []) (Whole connections ∷ [])
+    ∷ typing Part.LOGIC_OPERATOR (Whole connections ∷ []) (Whole connections ∷ [])
+    ∷ typing Part.NEGATED [] (Whole denials ∷ [])
+    ∷ typing Part.TEST_TAIL (Whole sums ∷ []) (Whole tests ∷ [])
+    ∷ typing Part.TEST_TAIL_1 (Whole sums ∷ []) (Whole tests ∷ [])
+    ∷ typing Part.TEST (Whole sums ∷ []) (Whole tests ∷ [])
+    ∷ typing Part.TESTED [] (Parts sums or_sign ∷ [])
+    ∷ typing Part.TESTED_1 (Parts sums or_sign ∷ []) (Parts sums or_sign ∷ [])
+    ∷ typing Part.SUM [] (Whole sums ∷ [])
+    ∷ typing Part.SUM_TAIL (Whole sums ∷ []) (Whole sums ∷ [])
+    ∷ typing Part.SUM_OPERATOR (Whole sums ∷ []) (Whole sums ∷ [])
+    ∷ typing Part.TERM [] (Whole products ∷ [])
+    ∷ typing Part.TERM_TAIL (Whole products ∷ []) (Whole products ∷ [])
+    ∷ typing Part.TERM_OPERATOR (Whole products ∷ []) (Whole products ∷ [])
+    ∷ typing Part.BIT [] (Whole complements ∷ [])
+    ∷ typing Part.ARRAY_TAIL (Whole entries ∷ []) (Whole entries ∷ [])
+    ∷ typing Part.ARRAY_OPERATOR (Whole entries ∷ []) (Whole entries ∷ [])
+    ∷ typing Part.NEG [] (Whole negations ∷ [])
+    ∷ typing Part.INC [] (Whole steps_in_front ∷ [])
+    ∷ typing Part.STEP_PREFIX [] (Whole steps_in_front ∷ [])
+    ∷ typing Part.STEP_TAIL (Whole steps_behind ∷ []) (Whole steps_behind ∷ [])
+    ∷ typing Part.STEP_OPERATOR (Whole steps_behind ∷ []) (Whole steps_behind ∷ [])
+    ∷ typing Part.ADDRESS_TAIL (Whole addresses ∷ []) (Whole addresses ∷ [])
+    ∷ typing Part.ADDRESS_OPERATOR (Whole addresses ∷ []) (Whole addresses ∷ [])
+    ∷ typing Part.POST [] (Whole members ∷ [])
+    ∷ typing Part.POST_TAIL (Whole members ∷ []) (Whole members ∷ [])
+    ∷ typing Part.CALL (Whole members ∷ []) (Whole members ∷ [])
+    ∷ typing Part.CALL_1 (NoneYet ∷ []) (Any assignments comma_sign ∷ [])
+    ∷ typing Part.CALL_2 (Parts assignments comma_sign ∷ []) (Parts assignments comma_sign ∷ [])
+    ∷ typing Part.PRIM [] (Whole primaries ∷ [])
+    ∷ typing Part.OTHER_PRIM [] (Whole primaries ∷ [])
+    ∷ typing Part.BRACKETED [] (Whole primaries ∷ [])
+    ∷ typing Part.PLAIN_PRIM [] (Whole primaries ∷ [])
+    ∷ typing Part.AFTER_PRIM (Whole members ∷ []) (Whole assignments ∷ [])
+    ∷ typing Part.AFTER_UNARY (Whole entries ∷ []) (Whole assignments ∷ [])
+    ∷ typing Part.OPERATOR (Whole members ∷ []) (Whole assignments ∷ [])
+    ∷ typing Part.OTHER_OPERATOR (Whole members ∷ []) (Whole assignments ∷ [])
+    ∷ typing Part.INNER_OPERATOR (Whole members ∷ []) (Whole steps_behind ∷ [])
+    ∷ typing Part.MEMBER_OPERATOR (Whole members ∷ []) (Whole steps_behind ∷ [])
+    ∷ typing Part.OUTER_OPERATOR (Whole entries ∷ []) (Whole assignments ∷ [])
     ∷ []
 
 abbrev is_rule : ℕ → Symbol Action → Bool
@@ -309,12 +301,10 @@ below under (done w) = done (within_append under w)
 below under (token p) = token (below under p)
 below under (close w e p) = close (within_append under w) e (below under p)
 below under (sure p) = sure (below under p)
-below under (act {items = items} {target = target} {symbols = symbols} c rest one w p) =
-    act c (rest ++ under) one
+below under (act {items = items} {target = target} {symbols = symbols} c rest one w p) = act c (rest ++ under) one
     (subst (λ xs. Within (items ++ under) xs) (append_assoc c.old rest under) (within_append under w))
     (subst (λ xs. Passes xs symbols (target ++ under)) (append_assoc c.now rest under) (below under p))
-below under (rule {items = items} {target = target} {symbols = symbols} c rest is w p) =
-    rule c (rest ++ under) is
+below under (rule {items = items} {target = target} {symbols = symbols} c rest is w p) = rule c (rest ++ under) is
     (subst (λ xs. Within (items ++ under) xs) (append_assoc c.old rest under) (within_append under w))
     (subst (λ xs. Passes xs symbols (target ++ under)) (append_assoc c.now rest under) (below under p))
 
@@ -381,7 +371,6 @@ of_all is (y ∷ some) form (later m) h = of_all is some form m (and_parts (is y
 
 pub form_passes : (symbols : List (Symbol Action)) (level : ℕ) → IsOneOf (record { symbols = symbols; level = level }) forms →
     Passes [] symbols (Whole level ∷ [])
-form_passes symbols level m =
-    fit_sound (change [] (Whole level ∷ [])) symbols
+form_passes symbols level m = fit_sound (change [] (Whole level ∷ [])) symbols
     (of_all (λ form. row_fits (change [] (Whole form.level ∷ [])) form.symbols) forms (record { symbols = symbols; level = level }) m
     forms_typed)

@@ -2,10 +2,11 @@
 use Rattle.std.specs.Prelude.{◌≡◌, ℕ, ◌≤◌, ◌<◌, List, [], ◌∷◌, ◌++◌, length, Bool, true, false, ◌||◌, None}
 use Rattle.inf_machine.specs.{Grammar.Event, Grammar.IsOneOf, Grammar.IsText, declared.symbols.Symbol.Symbol}
 use Rattle.inf_syntax.specs.declared.actions.Action.{Action}
-use Rattle.inf_syntax.specs.Parts.{ !bracket, !bracketed, !comma, !name, !negate, !outer_sure, !text, 'close_parenthesis', 'comma', 'minus'}
-use Rattle.inf_syntax.specs.Parts.{'open_parenthesis', BEGINNAME, CASENAME, NOTALIAS, OPERAND, TEXT, after_prim, after_unary, assign}
-use Rattle.inf_syntax.specs.Parts.{bare_prim, bracketed, entry, expression, expression_tail, inner_operator, logic, neg, operator}
-use Rattle.inf_syntax.specs.Parts.{other_assign, other_operator, outer_operator, plain_prim, post, prefixed, prim, step_prefix}
+use Rattle.inf_syntax.specs.declared.parts.names.TheConstants as Part
+use Part.{AFTER_PRIM, AFTER_UNARY, ASSIGN, BARE_PRIM, BEGINNAME, BRACKETED, CASENAME, CLOSE_PARENTHESIS, COMMA, DO_BRACKET, DO_BRACKETED}
+use Part.{DO_COMMA, DO_NAME, DO_NEGATE, DO_OUTER_SURE, DO_TEXT, ENTRY, EXPRESSION, EXPRESSION_TAIL, INNER_OPERATOR, LOGIC, MINUS, NEG}
+use Part.{NOTALIAS, OPEN_PARENTHESIS, OPERAND, OPERATOR, OTHER_ASSIGN, OTHER_OPERATOR, OUTER_OPERATOR, PLAIN_PRIM, POST, PREFIXED, PRIM}
+use Part.{STEP_PREFIX, TEXT}
 use Rattle.inf_expressions.specs.{Judging.root_finding, Rooted.seen, Sources.Source, Sources.found_in, Sources.meant, Units.judged}
 use Rattle.inf_expressions.specs.{Units.trees_of, declared.operators.Operand.Operand, declared.units.Wanted.Wanted}
 use Rattle.inf_grammar.specs.Language.{grammar}
@@ -27,49 +28,54 @@ form symbols level = record { symbols = symbols; level = level }
 -- and as a thing to be printed, where a name in brackets may be a print rule.
 abbrev pub forms : List Form
 forms =
-    form (expression ∷ []) commas
-    ∷ form (assign ∷ []) assignments
-    ∷ form (logic ∷ []) connections
-    ∷ form (post ∷ []) members
-    ∷ form (prim ∷ []) primaries
-    ∷ form (entry ∷ []) negations
-    ∷ form (bare_prim ∷ []) primaries
-    ∷ form ('minus' ∷ bare_prim ∷ !negate ∷ []) negations
-    ∷ form (NOTALIAS ∷ !name ∷ after_prim ∷ []) assignments
-    ∷ form (other_assign ∷ []) assignments
-    ∷ form (BEGINNAME ∷ !name ∷ after_prim ∷ expression_tail ∷ []) commas
-    ∷ form (plain_prim ∷ after_prim ∷ expression_tail ∷ []) commas
-    ∷ form (bracketed ∷ after_prim ∷ expression_tail ∷ []) commas
-    ∷ form (prefixed ∷ expression_tail ∷ []) commas
-    ∷ form ('minus' ∷ neg ∷ !negate ∷ after_unary ∷ expression_tail ∷ []) commas
-    ∷ form (TEXT ∷ !outer_sure ∷ !text ∷ operator ∷ expression_tail ∷ []) commas
-    ∷ form (TEXT ∷ !outer_sure ∷ !text ∷ 'comma' ∷ assign ∷ !comma ∷ expression_tail ∷ []) commas
-    ∷ form (CASENAME ∷ !name ∷ []) primaries
-    ∷ form (CASENAME ∷ !name ∷ operator ∷ expression_tail ∷ []) commas
-    ∷ form (CASENAME ∷ !name ∷ inner_operator ∷ after_unary ∷ expression_tail ∷ []) commas
-    ∷ form (CASENAME ∷ !name ∷ outer_operator ∷ expression_tail ∷ []) commas
-    ∷ form (plain_prim ∷ inner_operator ∷ after_unary ∷ expression_tail ∷ []) commas
-    ∷ form (plain_prim ∷ outer_operator ∷ expression_tail ∷ []) commas
-    ∷ form (bracketed ∷ inner_operator ∷ after_unary ∷ expression_tail ∷ []) commas
-    ∷ form (bracketed ∷ outer_operator ∷ expression_tail ∷ []) commas
-    ∷ form ('minus' ∷ prim ∷ inner_operator ∷ !negate ∷ after_unary ∷ expression_tail ∷ []) commas
-    ∷ form ('minus' ∷ prim ∷ !negate ∷ outer_operator ∷ expression_tail ∷ []) commas
-    ∷ form ('minus' ∷ 'minus' ∷ neg ∷ !negate ∷ !negate ∷ after_unary ∷ expression_tail ∷ []) commas
-    ∷ form ('minus' ∷ step_prefix ∷ !negate ∷ after_unary ∷ expression_tail ∷ []) commas
-    ∷ form (OPERAND ∷ !name ∷ after_prim ∷ []) assignments
-    ∷ form (plain_prim ∷ after_prim ∷ []) assignments
-    ∷ form (prefixed ∷ []) assignments
-    ∷ form ('minus' ∷ neg ∷ !negate ∷ after_unary ∷ []) assignments
-    ∷ form (TEXT ∷ !outer_sure ∷ !text ∷ operator ∷ []) assignments
-    ∷ form ('open_parenthesis' ∷ !bracket ∷ !outer_sure ∷ other_assign ∷ expression_tail ∷ !bracketed ∷ 'close_parenthesis' ∷ after_prim ∷
+    form (EXPRESSION ∷ []) commas
+    ∷ form (ASSIGN ∷ []) assignments
+    ∷ form (LOGIC ∷ []) connections
+    ∷ form (POST ∷ []) members
+    ∷ form (PRIM ∷ []) primaries
+    ∷ form (ENTRY ∷ []) negations
+    ∷ form (BARE_PRIM ∷ []) primaries
+    ∷ form (MINUS ∷ BARE_PRIM ∷ DO_NEGATE ∷ []) negations
+    ∷ form (NOTALIAS ∷ DO_NAME ∷ AFTER_PRIM ∷ []) assignments
+    ∷ form (OTHER_ASSIGN ∷ []) assignments
+    ∷ form (BEGINNAME ∷ DO_NAME ∷ AFTER_PRIM ∷ EXPRESSION_TAIL ∷ []) commas
+    ∷ form (PLAIN_PRIM ∷ AFTER_PRIM ∷ EXPRESSION_TAIL ∷ []) commas
+    ∷ form (BRACKETED ∷ AFTER_PRIM ∷ EXPRESSION_TAIL ∷ []) commas
+    ∷ form (PREFIXED ∷ EXPRESSION_TAIL ∷ []) commas
+    ∷ form (MINUS ∷ NEG ∷ DO_NEGATE ∷ AFTER_UNARY ∷ EXPRESSION_TAIL ∷ []) commas
+    ∷ form (TEXT ∷ DO_OUTER_SURE ∷ DO_TEXT ∷ OPERATOR ∷ EXPRESSION_TAIL ∷ []) commas
+    ∷ form (TEXT ∷ DO_OUTER_SURE ∷ DO_TEXT ∷ COMMA ∷ ASSIGN ∷ DO_COMMA ∷ EXPRESSION_TAIL ∷ []) commas
+    ∷ form (CASENAME ∷ DO_NAME ∷ []) primaries
+    ∷ form (CASENAME ∷ DO_NAME ∷ OPERATOR ∷ EXPRESSION_TAIL ∷ []) commas
+    ∷ form (CASENAME ∷ DO_NAME ∷ INNER_OPERATOR ∷ AFTER_UNARY ∷ EXPRESSION_TAIL ∷ []) commas
+    ∷ form (CASENAME ∷ DO_NAME ∷ OUTER_OPERATOR ∷ EXPRESSION_TAIL ∷ []) commas
+    ∷ form (PLAIN_PRIM ∷ INNER_OPERATOR ∷ AFTER_UNARY ∷ EXPRESSION_TAIL ∷ []) commas
+    ∷ form (PLAIN_PRIM ∷ OUTER_OPERATOR ∷ EXPRESSION_TAIL ∷ []) commas
+    ∷ form (BRACKETED ∷ INNER_OPERATOR ∷ AFTER_UNARY ∷ EXPRESSION_TAIL ∷ []) commas
+    ∷ form (BRACKETED ∷ OUTER_OPERATOR ∷ EXPRESSION_TAIL ∷ []) commas
+    ∷ form (MINUS ∷ PRIM ∷ INNER_OPERATOR ∷ DO_NEGATE ∷ AFTER_UNARY ∷ EXPRESSION_TAIL ∷ []) commas
+    ∷ form (MINUS ∷ PRIM ∷ DO_NEGATE ∷ OUTER_OPERATOR ∷ EXPRESSION_TAIL ∷ []) commas
+    ∷ form (MINUS ∷ MINUS ∷ NEG ∷ DO_NEGATE ∷ DO_NEGATE ∷ AFTER_UNARY ∷ EXPRESSION_TAIL ∷ []) commas
+    ∷ form (MINUS ∷ STEP_PREFIX ∷ DO_NEGATE ∷ AFTER_UNARY ∷ EXPRESSION_TAIL ∷ []) commas
+    ∷ form (OPERAND ∷ DO_NAME ∷ AFTER_PRIM ∷ []) assignments
+    ∷ form (PLAIN_PRIM ∷ AFTER_PRIM ∷ []) assignments
+    ∷ form (PREFIXED ∷ []) assignments
+    ∷ form (MINUS ∷ NEG ∷ DO_NEGATE ∷ AFTER_UNARY ∷ []) assignments
+    ∷ form (TEXT ∷ DO_OUTER_SURE ∷ DO_TEXT ∷ OPERATOR ∷ []) assignments
+    ∷ form (OPEN_PARENTHESIS ∷ DO_BRACKET ∷ DO_OUTER_SURE ∷ OTHER_ASSIGN ∷ EXPRESSION_TAIL ∷ DO_BRACKETED ∷
+    CLOSE_PARENTHESIS ∷ AFTER_PRIM ∷
     []) assignments
-    ∷ form ('open_parenthesis' ∷ !bracket ∷ OPERAND ∷ !name ∷ 'close_parenthesis' ∷ !outer_sure ∷ !bracketed ∷ []) primaries
-    ∷ form ('open_parenthesis' ∷ !bracket ∷ OPERAND ∷ !name ∷ 'close_parenthesis' ∷ !outer_sure ∷ !bracketed ∷ other_operator ∷ [])
+    ∷ form (OPEN_PARENTHESIS ∷ DO_BRACKET ∷ OPERAND ∷ DO_NAME ∷ CLOSE_PARENTHESIS ∷ DO_OUTER_SURE ∷
+    DO_BRACKETED ∷ []) primaries
+    ∷ form (OPEN_PARENTHESIS ∷ DO_BRACKET ∷ OPERAND ∷ DO_NAME ∷ CLOSE_PARENTHESIS ∷ DO_OUTER_SURE ∷
+    DO_BRACKETED ∷ OTHER_OPERATOR ∷ [])
     assignments
-    ∷ form ('open_parenthesis' ∷ !bracket ∷ OPERAND ∷ !name ∷ !outer_sure ∷ operator ∷ expression_tail ∷ !bracketed ∷ 'close_parenthesis' ∷
-    after_prim ∷ []) assignments
-    ∷ form ('open_parenthesis' ∷ !bracket ∷ OPERAND ∷ !name ∷ !outer_sure ∷ 'comma' ∷ assign ∷ !comma ∷ expression_tail ∷ !bracketed ∷
-    'close_parenthesis' ∷ after_prim ∷ []) assignments
+    ∷ form (OPEN_PARENTHESIS ∷ DO_BRACKET ∷ OPERAND ∷ DO_NAME ∷ DO_OUTER_SURE ∷ OPERATOR ∷
+    EXPRESSION_TAIL ∷ DO_BRACKETED ∷ CLOSE_PARENTHESIS ∷
+    AFTER_PRIM ∷ []) assignments
+    ∷ form (OPEN_PARENTHESIS ∷ DO_BRACKET ∷ OPERAND ∷ DO_NAME ∷ DO_OUTER_SURE ∷ COMMA ∷ ASSIGN ∷
+    DO_COMMA ∷ EXPRESSION_TAIL ∷ DO_BRACKETED ∷
+    CLOSE_PARENTHESIS ∷ AFTER_PRIM ∷ []) assignments
     ∷ []
 
 -- The tokens of a text of such a form are an expression by the levels of its operators; and taking them, with the actions
@@ -103,7 +109,7 @@ SymbolsComeToTheirTree =
 abbrev pub ExpressionsAreTexts : Type 0
 ExpressionsAreTexts =
     (order place : ℕ) (atoms : List ℕ) (a : Source) → Written commas order place atoms a →
-    (events : List (Event Action)) × IsText grammar (expression ∷ []) atoms events
+    (events : List (Event Action)) × IsText grammar (EXPRESSION ∷ []) atoms events
 
 -- No tokens are two expressions.
 abbrev pub TextsAreOneExpression : Type 0

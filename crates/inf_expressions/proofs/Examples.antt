@@ -13,8 +13,7 @@ use Rattle.inf_expressions.specs.Trees as tree
 -- Operands by place: the numbers 0 to 5; then a variable, a constant known later, the functions `child`, `random` and `indirect`,
 -- and `#` with an unknown name.
 abbrev operands : List Operand
-operands =
-    Operand.Known 0 ∷ Operand.Known 1 ∷ Operand.Known 2 ∷ Operand.Known 3 ∷ Operand.Known 4 ∷ Operand.Known 5 ∷ Operand.Variable 1
+operands = Operand.Known 0 ∷ Operand.Known 1 ∷ Operand.Known 2 ∷ Operand.Known 3 ∷ Operand.Known 4 ∷ Operand.Known 5 ∷ Operand.Variable 1
     ∷ Operand.Later (Target.Name 7) ∷ Operand.Function Function.Child ∷ Operand.Function Function.Random ∷ Operand.Function
     Function.Indirect
     ∷ Operand.Unknown ∷ []
@@ -131,8 +130,7 @@ no_operand = refl
 values_of_case : judged Wanted.Case 10 operands (leaf 10 1 ∷ leaf 12 2 ∷ leaf 14 3 ∷ Symbol.Two Binary.To ∷ Symbol.Comma ∷ []) ≡ None
 values_of_case = refl
 
-trees_of_case :
-    map (λ (r : Rooted). r.tree) (trees_of Wanted.Case 10 operands (leaf 10 1 ∷ leaf 12 2 ∷ leaf 14 3 ∷ Symbol.Two Binary.To ∷
+trees_of_case : map (λ (r : Rooted). r.tree) (trees_of Wanted.Case 10 operands (leaf 10 1 ∷ leaf 12 2 ∷ leaf 14 3 ∷ Symbol.Two Binary.To ∷
     Symbol.Comma ∷ []))
     ≡ tree.Leaf (Operand.Known 1) ∷ tree.Two Binary.To (tree.Leaf (Operand.Known 2)) (tree.Leaf (Operand.Known 3)) ∷ []
 trees_of_case = refl
@@ -322,13 +320,11 @@ call_of_child : trees (leaf 10 child ∷ leaf 12 x ∷ Symbol.Call 1 ∷ []) ≡
     (tree.Leaf (Operand.Variable 1)) ∷ []
 call_of_child = refl
 
-call_of_indirect :
-    trees (leaf 10 indirect ∷ leaf 12 later ∷ leaf 14 1 ∷ Symbol.Call 2 ∷ [])
+call_of_indirect : trees (leaf 10 indirect ∷ leaf 12 later ∷ leaf 14 1 ∷ Symbol.Call 2 ∷ [])
     ≡ tree.One Unary.Indirect (tree.Two Binary.Then (tree.Leaf (Operand.Later (Target.Name 7))) (tree.Leaf (Operand.Known 1))) ∷ []
 call_of_indirect = refl
 
-call_of_three :
-    trees (leaf 10 later ∷ leaf 12 1 ∷ leaf 14 2 ∷ leaf 16 3 ∷ Symbol.Call 3 ∷ [])
+call_of_three : trees (leaf 10 later ∷ leaf 12 1 ∷ leaf 14 2 ∷ leaf 16 3 ∷ Symbol.Call 3 ∷ [])
     ≡ tree.Two Binary.Call (tree.Leaf (Operand.Later (Target.Name 7)))
     (tree.Two Binary.Then (tree.Leaf (Operand.Known 1))
     (tree.Two Binary.Then (tree.Leaf (Operand.Known 2)) (tree.Leaf (Operand.Known 3)))) ∷ []

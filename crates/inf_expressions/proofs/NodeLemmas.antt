@@ -60,8 +60,7 @@ stands front n back below =
 
 -- A list is the nodes before a place, the node at the place, and those behind it.
 cut_at : (nodes : List Node) (k : ℕ) (n : Node) → k < length nodes → n ≡ get_or nodes k n → take k nodes ++ n ∷ drop (suc k) nodes ≡ nodes
-cut_at nodes k n within is =
-    ap (λ m. take k nodes ++ m ∷ drop (suc k) nodes) is
+cut_at nodes k n within is = ap (λ m. take k nodes ++ m ∷ drop (suc k) nodes) is
     ∙ ap (λ back. take k nodes ++ back) (sym (drop-cons nodes k n within))
     ∙ take-append-drop k nodes
 
@@ -75,8 +74,7 @@ node_tree nodes k n below within is =
     (stands (take k nodes) n (drop (suc k) nodes) (subst (AreBelow 0) (sym cut) below)))
 
 pub node_below : (nodes : List Node) (k : ℕ) (n : Node) → AreBelow 0 nodes → k < length nodes → n ≡ get_or nodes k n → IsBelow k n
-node_below nodes k n below within is =
-    subst (λ p. IsBelow p n) (omega (arith, length-take k nodes))
+node_below nodes k n below within is = subst (λ p. IsBelow p n) (omega (arith, length-take k nodes))
     (below_at 0 (take k nodes) n (drop (suc k) nodes) (subst (AreBelow 0) (sym (cut_at nodes k n within is)) below))
 
 pub no_tree : (nodes : List Node) (k : ℕ) → length nodes ≤ k → tree_at (trees_from [] nodes) k ≡ Leaf (Operand.Known 0)

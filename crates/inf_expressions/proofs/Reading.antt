@@ -74,8 +74,7 @@ behind : {S : Type 0} {act : Symbol → S → S} {joint : S → S} {have : Sourc
     ((more : List Symbol) (state : S) → run act ((opened a).0 ++ more) state ≡ run act more (spread have a state)) →
     (s : Symbol) (rest : List Symbol) (state after : S) → act s (have a state) ≡ after →
     run act ((postfix a ++ s ∷ []) ++ rest) state ≡ run act rest after
-behind {act = act} reads a opens s rest state after is =
-    ap (λ symbols. run act symbols state) (append_assoc (postfix a) (s ∷ []) rest)
+behind {act = act} reads a opens s rest state after is = ap (λ symbols. run act symbols state) (append_assoc (postfix a) (s ∷ []) rest)
     ∙ whole reads a opens (s ∷ rest) state
     ∙ ap (run act rest) is
 

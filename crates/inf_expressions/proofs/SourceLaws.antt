@@ -45,12 +45,10 @@ reads_trees w unit operands = record {
   call = λ n f list g given is joined. call_gained w unit operands n f list g given is joined;
 }
 
-gained_all : (unit : ℕ) (operands : List Operand) (sources : List Source) (g : Gathered) →
-    all (gained unit operands) sources g
+gained_all : (unit : ℕ) (operands : List Operand) (sources : List Source) (g : Gathered) → all (gained unit operands) sources g
     ≡ record { trees = reverse (map (meant operands) sources) ++ g.trees; finding = found_in_all unit operands sources g.finding }
 gained_all unit operands [] g = refl
-gained_all unit operands (a ∷ sources) g =
-    gained_all unit operands sources (gained unit operands a g)
+gained_all unit operands (a ∷ sources) g = gained_all unit operands sources (gained unit operands a g)
     ∙ ap (λ trees. record { trees = trees; finding = found_in_all unit operands sources (found_in unit operands a g.finding) })
     (sym (append_assoc (reverse (map (meant operands) sources)) (meant operands a ∷ []) g.trees)
     ∙ ap (λ trees. trees ++ g.trees) (sym (reverse-append (meant operands a ∷ []) (map (meant operands) sources))))
@@ -58,8 +56,7 @@ gained_all unit operands (a ∷ sources) g =
 gathered_all : (w : Wanted) (unit : ℕ) (operands : List Operand) (sources : List Source) →
     gathered w unit operands (postfixes sources) nothing_gathered
     ≡ record { trees = reverse (map (meant operands) sources); finding = found_in_all unit operands sources None }
-gathered_all w unit operands sources =
-    gathered_run w unit operands (postfixes sources) nothing_gathered
+gathered_all w unit operands sources = gathered_run w unit operands (postfixes sources) nothing_gathered
     ∙ reading_all (reads_trees w unit operands) sources nothing_gathered
     ∙ gained_all unit operands sources nothing_gathered
     ∙ ap (λ trees. record { trees = trees; finding = found_in_all unit operands sources None })
@@ -112,9 +109,7 @@ reads_sources = record {
 
 held_all : (sources before : List Source) → all (λ a held. a ∷ held) sources before ≡ reverse sources ++ before
 held_all [] before = refl
-held_all (a ∷ sources) before =
-    held_all sources (a ∷ before)
-    ∙ sym (append_assoc (reverse sources) (a ∷ []) before)
+held_all (a ∷ sources) before = held_all sources (a ∷ before) ∙ sym (append_assoc (reverse sources) (a ∷ []) before)
     ∙ ap (λ held. held ++ before) (sym (reverse-append (a ∷ []) sources))
 
 read_back : (sources : List Source) → reverse (run taken (postfixes sources) []) ≡ sources

@@ -31,8 +31,7 @@ rule_view rule =
       begins = set_number rule.begins;
       is_empty = rule.is_empty;
       rows = map row_view (cut rule.rows all_rows);
-      other = reverse
-          (cut rule.other all_parts);
+      other = reverse (cut rule.other all_parts);
     }
 
 abbrev pub row_of : Row Action → RowView

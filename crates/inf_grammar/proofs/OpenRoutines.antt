@@ -214,8 +214,7 @@ piece_front (atom ∷ atoms) h =
     of_parts parts e = ap (λ left. is_inside (read grammar known left atoms)) (leaves parts e)
 
     no_hash : fits grammar known atom (Symbol.Rule 2 ∷ []) ≡ true → (atom == mark_atom Mark.Hash) ≡ false
-    no_hash f = false_from_ne_true (atom == mark_atom Mark.Hash) (λ e.
-        both_ways (fits grammar known atom (Symbol.Rule 2 ∷ []))
+    no_hash f = false_from_ne_true (atom == mark_atom Mark.Hash) (λ e. both_ways (fits grammar known atom (Symbol.Rule 2 ∷ []))
         (ap (λ a. fits grammar known a (Symbol.Rule 2 ∷ [])) (eqb-true atom (mark_atom Mark.Hash) e) ∙ hash_begins_none) f)
 
     or_no : (b : Bool) → b ≡ (b || false)

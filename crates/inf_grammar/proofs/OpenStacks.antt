@@ -91,8 +91,7 @@ is_array_row (Symbol.Token class ∷ parts) = (class == array) && are_calm parts
 is_array_row _ = false
 
 abbrev pub is_directive_row : List (Symbol Action) → Bool
-is_directive_row parts =
-    is_array_row parts || (are_outer parts && (bit_and (beginning grammar known parts) (of_word (codes "array")) == 0))
+is_directive_row parts = is_array_row parts || (are_outer parts && (bit_and (beginning grammar known parts) (of_word (codes "array")) == 0))
 
 -- Lemmas by evaluation over the table
 
@@ -171,8 +170,7 @@ of_class class other atom k same is f =
 -- a token of a class without an atom is another one
 is_other : (class atom other : ℕ) → not (has (grammar.atoms_of class) other) ≡ true → has (grammar.atoms_of class) atom ≡ true →
     (atom == other) ≡ false
-is_other class atom other lacks f =
-    false_from_ne_true (atom == other) (λ e.
+is_other class atom other lacks f = false_from_ne_true (atom == other) (λ e.
     both_ways (has (grammar.atoms_of class) other) (not-true (has (grammar.atoms_of class) other) lacks)
     (ap (has (grammar.atoms_of class)) (sym (eqb-true atom other e)) ∙ f))
 

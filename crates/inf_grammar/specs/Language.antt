@@ -1,8 +1,8 @@
 -- The grammar of the language, and the facts that the machine knows of it.
 use Rattle.std.specs.Prelude.{List, ◌++◌}
 use Rattle.inf_machine.specs.{Grammar.Grammar, Grammar.Row, Machine.Known}
-use Rattle.inf_syntax.specs.{At.number_at, At.rows_at, At.test_at, Classes.classes, Table1.rules_1, Table2.rules_2, Table3.rules_3}
-use Rattle.inf_syntax.specs.{Table4.rules_4, declared.actions.Action.Action}
+use Rattle.inf_syntax.specs.{At.number_at, At.rows_at, At.test_at, Classes.classes, declared.actions.Action.Action}
+use Rattle.inf_syntax.specs.Table.{rules_1, rules_2, rules_3, rules_4}
 use Rattle.inf_grammar.specs.Facts.{beginnings, followers, empties, step_bounds}
 
 abbrev pub rules : List (List (Row Action))

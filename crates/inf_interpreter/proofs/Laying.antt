@@ -38,8 +38,7 @@ pub laid_then : (a b : List Item) (o p q : Out) → Laid o a p → Laid p b q �
 laid_then a b o p q x y = record {
   kept = y.kept ∙ ap (λ k. kept_behind k b) x.kept ∙ kept_joined o.kept a b;
   fits = λ e. x.fits (y.fits e);
-  code =
-      λ e. y.code e ∙ ap (λ k. code_behind k b p.code) x.kept ∙ ap (λ c. code_behind (kept_behind o.kept a) b c) (x.code
+  code = λ e. y.code e ∙ ap (λ k. code_behind k b p.code) x.kept ∙ ap (λ c. code_behind (kept_behind o.kept a) b c) (x.code
       (y.fits e)) ∙ code_joined
       o.kept a b o.code;
 }
@@ -152,11 +151,9 @@ then_ {w} {c} {d} {P} {Q} f g o =
       items = x.items ++ y.items;
       laid = laid_then x.items y.items o (c o) (d (c o)) x.laid y.laid;
       names = names_then o (c o) (d (c o)) x.names y.names;
-      runs =
-          λ at rest k s. subst (λ from. Then P Q at from rest) (sym (append_assoc x.items y.items rest)) (
+      runs = λ at rest k s. subst (λ from. Then P Q at from rest) (sym (append_assoc x.items y.items rest)) (
             y.items ++ rest,
-            x.runs at (y.items ++ rest) (supplies_before w (c o) (d (c o)) y.names y.laid.fits k)
-                (stands_front x.items y.items at rest s),
+            x.runs at (y.items ++ rest) (supplies_before w (c o) (d (c o)) y.names y.laid.fits k) (stands_front x.items y.items at rest s),
             y.runs at rest k (stands_back x.items y.items at rest s),
           );
     }
@@ -165,12 +162,7 @@ pub so : {w : World} {c : Code} {P Q : Claim} → ((at : Label → Place) (from 
     Always w c Q
 so {w} {c} {P} {Q} h f o =
     let x = f o in
-    record {
-      items = x.items;
-      laid = x.laid;
-      names = x.names;
-      runs = λ at rest k s. h at (x.items ++ rest) rest (x.runs at rest k s);
-    }
+    record { items = x.items; laid = x.laid; names = x.names; runs = λ at rest k s. h at (x.items ++ rest) rest (x.runs at rest k s) }
 
 pub labelled : {w : World} {body : Label → Code} {P : Claim} → ((l : Label) → Always w (body l) P) → Always w (with_label body) P
 labelled {w} {body} {P} f o =
@@ -223,13 +215,11 @@ routined {w} {body} {P} limits v f o =
       laid = record {
         kept = x.laid.kept ∙ ap (λ k. kept_behind k x.items) (used_kept limits v o);
         fits = λ e. used_fits limits v o (x.laid.fits e);
-        code =
-            λ e. x.laid.code e ∙ ap (λ k. code_behind k x.items named.code) (used_kept limits v o)
+        code = λ e. x.laid.code e ∙ ap (λ k. code_behind k x.items named.code) (used_kept limits v o)
             ∙ ap (λ c. code_behind o.kept x.items c) (used_code limits v o);
       };
       names = names_then o named (body called named) (used_stays limits v o) x.names;
-      runs =
-          λ at rest k s.
+      runs = λ at rest k s.
           let before = supplies_before w named (body called named) x.names x.laid.fits k in
           x.runs at rest k s (record {
             number = before.numbers v called (used_operand limits v o before.fits);

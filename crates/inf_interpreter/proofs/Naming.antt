@@ -27,11 +27,9 @@ put_found key u (n ∷ names) = go (bytes_eq key n.name) refl (put_found key u n
   where
     go : (b : Bool) → bytes_eq key n.name ≡ b → standing_of key (put key u names) ≡ Some u →
         standing_of key (put key u (n ∷ names)) ≡ Some u
-    go true e later =
-        ap (λ b. standing_of key (if b then record { name = n.name; standing = u } ∷ names else n ∷ put key u names)) e
+    go true e later = ap (λ b. standing_of key (if b then record { name = n.name; standing = u } ∷ names else n ∷ put key u names)) e
         ∙ ap (λ b. if b then Some u else standing_of key names) e
-    go false e later =
-        ap (λ b. standing_of key (if b then record { name = n.name; standing = u } ∷ names else n ∷ put key u names)) e
+    go false e later = ap (λ b. standing_of key (if b then record { name = n.name; standing = u } ∷ names else n ∷ put key u names)) e
         ∙ ap (λ b. if b then Some n.standing else standing_of key (put key u names)) e ∙ later
 
 put_index : (key : List ℕ) (u : Standing Place) (names : List (Named Place)) → index_of key (put key u names) ≡ index_of key names
@@ -41,16 +39,14 @@ put_index key u (n ∷ names) = go (bytes_eq key n.name) refl (put_index key u n
     go : (b : Bool) → bytes_eq key n.name ≡ b → index_of key (put key u names) ≡ index_of key names →
         index_of key (put key u (n ∷ names)) ≡ index_of key (n ∷ names)
     go true e later = ap (λ b. index_of key (if b then record { name = n.name; standing = u } ∷ names else n ∷ put key u names)) e
-    go false e later =
-        ap (λ b. index_of key (if b then record { name = n.name; standing = u } ∷ names else n ∷ put key u names)) e
+    go false e later = ap (λ b. index_of key (if b then record { name = n.name; standing = u } ∷ names else n ∷ put key u names)) e
         ∙ ap (λ k. if bytes_eq key n.name then 0 else k + 1) later
 
 -- Another name that is known stays as it is, where the one that is put was not known.
 kept_standing : (key other : List ℕ) (u x : Standing Place) (names : List (Named Place)) → standing_of key names ≡ None →
     standing_of other names ≡ Some x → standing_of other (put key u names) ≡ Some x
 kept_standing key other u x [] none some = absent some
-kept_standing key other u x (n ∷ names) none some =
-    first (bytes_eq key n.name) refl (kept_standing key other u x names)
+kept_standing key other u x (n ∷ names) none some = first (bytes_eq key n.name) refl (kept_standing key other u x names)
   where
     second : (b : Bool) → standing_of key names ≡ None → (if b then Some n.standing else standing_of other names) ≡ Some x →
         (standing_of key names ≡ None → standing_of other names ≡ Some x → standing_of other (put key u names) ≡ Some x) →
@@ -62,15 +58,13 @@ kept_standing key other u x (n ∷ names) none some =
         (standing_of key names ≡ None → standing_of other names ≡ Some x → standing_of other (put key u names) ≡ Some x) →
         standing_of other (put key u (n ∷ names)) ≡ Some x
     first true e later = missing (sym (ap (λ b. if b then Some n.standing else standing_of key names) e) ∙ none)
-    first false e later =
-        ap (λ b. standing_of other (if b then record { name = n.name; standing = u } ∷ names else n ∷ put key u names)) e
+    first false e later = ap (λ b. standing_of other (if b then record { name = n.name; standing = u } ∷ names else n ∷ put key u names)) e
         ∙ second (bytes_eq other n.name) (sym (ap (λ b. if b then Some n.standing else standing_of key names) e) ∙ none) some later
 
 kept_index : (key other : List ℕ) (u x : Standing Place) (names : List (Named Place)) → standing_of key names ≡ None →
     standing_of other names ≡ Some x → index_of other (put key u names) ≡ index_of other names
 kept_index key other u x [] none some = absent some
-kept_index key other u x (n ∷ names) none some =
-    first (bytes_eq key n.name) refl (kept_index key other u x names)
+kept_index key other u x (n ∷ names) none some = first (bytes_eq key n.name) refl (kept_index key other u x names)
   where
     second : (b : Bool) → standing_of key names ≡ None → (if b then Some n.standing else standing_of other names) ≡ Some x →
         (standing_of key names ≡ None → standing_of other names ≡ Some x → index_of other (put key u names) ≡ index_of other names) →
@@ -82,8 +76,7 @@ kept_index key other u x (n ∷ names) none some =
         (standing_of key names ≡ None → standing_of other names ≡ Some x → index_of other (put key u names) ≡ index_of other names) →
         index_of other (put key u (n ∷ names)) ≡ index_of other (n ∷ names)
     first true e later = missing (sym (ap (λ b. if b then Some n.standing else standing_of key names) e) ∙ none)
-    first false e later =
-        ap (λ b. index_of other (if b then record { name = n.name; standing = u } ∷ names else n ∷ put key u names)) e
+    first false e later = ap (λ b. index_of other (if b then record { name = n.name; standing = u } ∷ names else n ∷ put key u names)) e
         ∙ second (bytes_eq other n.name) (sym (ap (λ b. if b then Some n.standing else standing_of key names) e) ∙ none) some later
 
 -- The language has none of these names.
@@ -98,8 +91,7 @@ seen st = found_as None st
 
 seen_is : (v : Veneer) (o : Out) (st : Option (Standing Place)) → standing_of (folded (name_of v)) o.names.names ≡ st →
     found_in (name_of v) o.names ≡ seen st
-seen_is v o st e =
-    ap (λ m. found_as m (standing_of (folded (name_of v)) o.names.names)) (no_system o.names.is_debugging v) ∙ ap seen e
+seen_is v o st e = ap (λ m. found_as m (standing_of (folded (name_of v)) o.names.names)) (no_system o.names.is_debugging v) ∙ ap seen e
 
 -- the output after a name is used, by the answer of its look-up
 abbrev used_as : Limits → Veneer → Found Place → Option ReferFault → Out → Out
@@ -114,8 +106,7 @@ by_used_as limits v (Some fault) o = refl
 used_is : (limits : Limits) (v : Veneer) (o : Out) (f : Found Place) → found_in (name_of v) o.names ≡ f →
     used limits v o ≡ used_as limits v f (refer_fault_by f (is_full limits o.names)) o
 unfolding used
-used_is limits v o f e =
-    by_used_as limits v (refer_fault limits (name_of v) o.names) o
+used_is limits v o f e = by_used_as limits v (refer_fault limits (name_of v) o.names) o
     ∙ ap (λ g. used_as limits v g (refer_fault_by g (is_full limits o.names)) o) e
 
 abbrev called_as : Veneer → Found Place → Option ReferFault → Out → Simple
@@ -130,24 +121,20 @@ by_called_as v (Some fault) o = refl
 routine_is : (limits : Limits) (v : Veneer) (o : Out) (f : Found Place) → found_in (name_of v) o.names ≡ f →
     routine limits v o ≡ called_as v f (refer_fault_by f (is_full limits o.names)) o
 unfolding routine
-routine_is limits v o f e =
-    by_called_as v (refer_fault limits (name_of v) o.names) o
+routine_is limits v o f e = by_called_as v (refer_fault limits (name_of v) o.names) o
     ∙ ap (λ g. called_as v g (refer_fault_by g (is_full limits o.names)) o) e
 
 -- Where the name of a routine was used and no limit was passed, its operand is the one by which the routine is called.
 pub used_operand : (limits : Limits) (v : Veneer) (o : Out) → (used limits v o).past ≡ None →
     operand_of v (used limits v o) ≡ Some (routine limits v o)
-used_operand limits v o fits =
-    by (standing_of (folded (name_of v)) o.names.names) refl
+used_operand limits v o fits = by (standing_of (folded (name_of v)) o.names.names) refl
   where
     so_used : (f : Found Place) → found_in (name_of v) o.names ≡ f →
         ((used_as limits v f (refer_fault_by f (is_full limits o.names)) o).past ≡ None →
         operand_of v (used_as limits v f (refer_fault_by f (is_full limits o.names)) o)
         ≡ Some (called_as v f (refer_fault_by f (is_full limits o.names)) o)) →
         operand_of v (used limits v o) ≡ Some (routine limits v o)
-    so_used f e h =
-        ap (operand_of v) (used_is limits v o f e)
-        ∙ h (sym (ap (λ (p : Out). p.past) (used_is limits v o f e)) ∙ fits)
+    so_used f e h = ap (operand_of v) (used_is limits v o f e) ∙ h (sym (ap (λ (p : Out). p.past) (used_is limits v o f e)) ∙ fits)
         ∙ ap Some (sym (routine_is limits v o f e))
 
     new : (b : Bool) → (used_as limits v Found.Unknown (refer_fault_by {P = Place} Found.Unknown b) o).past ≡ None →
@@ -163,8 +150,7 @@ used_operand limits v o fits =
     by : (st : Option (Standing Place)) → standing_of (folded (name_of v)) o.names.names ≡ st →
         operand_of v (used limits v o) ≡ Some (routine limits v o)
     by None e = so_used Found.Unknown (seen_is v o None e) (new (is_full limits o.names))
-    by (Some (IsUsed spelling place)) e =
-        so_used Found.Used (seen_is v o (Some (IsUsed spelling place)) e)
+    by (Some (IsUsed spelling place)) e = so_used Found.Used (seen_is v o (Some (IsUsed spelling place)) e)
         (λ _. ap (λ st. named_operand st (index_of (folded (name_of v)) o.names.names)) e)
     by (Some (IsDeclared number meaning place)) e =
         so_used (Found.Declared meaning place) (seen_is v o (Some (IsDeclared number meaning place)) e)
@@ -207,8 +193,7 @@ used_stays limits u o = by (standing_of (folded (name_of u)) o.names.names) refl
 
     by : (st : Option (Standing Place)) → standing_of (folded (name_of u)) o.names.names ≡ st → NamesStay o (used limits u o)
     by None e = so_used Found.Unknown (seen_is u o None e) (new e (is_full limits o.names))
-    by (Some (IsUsed spelling place)) e =
-        so_used Found.Used (seen_is u o (Some (IsUsed spelling place)) e)
+    by (Some (IsUsed spelling place)) e = so_used Found.Used (seen_is u o (Some (IsUsed spelling place)) e)
         (names_equal o (used_as limits u Found.Used None o) refl)
     by (Some (IsDeclared number meaning place)) e =
         so_used (Found.Declared meaning place) (seen_is u o (Some (IsDeclared number meaning place)) e)
@@ -229,8 +214,7 @@ name_stays name place o = by (system_meaning o.names.is_debugging name) (standin
     by : (system : Option Meaning) (st : Option (Standing Place)) → standing_of (folded name) o.names.names ≡ st →
         NamesStay o (record o { names = with_used_by (found_as system st) name place o.names })
     by None None e = record {
-      stays =
-          λ v x h. put_stays (folded name) (IsUsed name place) o.names.names e (folded (name_of v)) x
+      stays = λ v x h. put_stays (folded name) (IsUsed name place) o.names.names e (folded (name_of v)) x
           (standing_of (folded (name_of v)) o.names.names) refl h;
     }
     by (Some m) None e = names_equal o (record o { names = with_used_by (found_as (Some m) None) name place o.names }) refl

@@ -32,8 +32,7 @@ marks_joined ((Item.Mark l) ∷ a) b = ap (λ ms. l.number ∷ ms) (marks_joined
 
 pub uses_joined : (a b : List Item) → uses (a ++ b) ≡ uses a ++ uses b
 uses_joined [] b = refl
-uses_joined ((Item.Instruction i) ∷ a) b =
-    ap (λ ns. operand_labels i.operands ++ (branch_labels i.branch ++ ns)) (uses_joined a b)
+uses_joined ((Item.Instruction i) ∷ a) b = ap (λ ns. operand_labels i.operands ++ (branch_labels i.branch ++ ns)) (uses_joined a b)
     ∙ (ap (λ ns. operand_labels i.operands ++ ns) (sym (append_assoc (branch_labels i.branch) (uses a) (uses b)))
     ∙ sym (append_assoc (operand_labels i.operands) (branch_labels i.branch ++ uses a) (uses b)))
 uses_joined ((Item.Mark l) ∷ a) b = uses_joined a b
@@ -219,8 +218,7 @@ owned_then {c} {d} {needs} {a} {b} f g o =
     record {
       items = x.items ++ y.items;
       laid = laid_then x.items y.items o (c o) (d (c o)) x.laid y.laid;
-      own =
-          λ few.
+      own = λ few.
           let q = y.own few in
           let p = x.own (let r = q.within.grows in omega (arith, few, r)) in
           settles_then needs a b o.next (c o).next (d (c o)).next x.items y.items p q;
@@ -236,8 +234,7 @@ owned_wide {c} {a} {b} {given} h f o =
     record {
       items = x.items;
       laid = x.laid;
-      own =
-          λ few.
+      own = λ few.
           let s = x.own few in record {
             within = s.within;
             all = s.all;
@@ -286,19 +283,14 @@ owned_label {body} {needs} {given} f o =
     record {
       items = x.items;
       laid = record { kept = x.laid.kept; fits = x.laid.fits; code = x.laid.code };
-      own =
-          λ few.
+      own = λ few.
           let w = x.own few in
           let e = behind_is o.next (let r = w.within.grows in omega (arith, few, r)) in
           settles_label needs given o.next high x.items (subst (λ n. Settles (o.next ∷ needs) (o.next ∷ given) n high x.items) e w);
     }
 
 settles_nothing : (needs : List ℕ) (low : ℕ) → Settles needs [] low low []
-settles_nothing needs low = record {
-  within = within_given [] low;
-  all = λ n. omega arith;
-  known = λ n h. none_needed n h;
-}
+settles_nothing needs low = record { within = within_given [] low; all = λ n. omega arith; known = λ n h. none_needed n h }
 
 pub owned_nothing : {needs : List ℕ} → Owned nothing needs []
 owned_nothing {needs} o = record {
@@ -325,26 +317,20 @@ unfolding laid
 laid_next limits item o = by_next limits o.kept item o
 
 settles_item : (item : Item) (low : ℕ) → Settles (uses (item ∷ [])) (marks (item ∷ [])) low low (item ∷ [])
-settles_item item low = record {
-  within = within_given (marks (item ∷ [])) low;
-  all = λ n. omega arith;
-  known = λ n h. omega (arith, h);
-}
+settles_item item low = record { within = within_given (marks (item ∷ [])) low; all = λ n. omega arith; known = λ n h. omega (arith, h) }
 
 pub owned_item : (limits : Limits) (item : Item) → Owned (laid limits item) (uses (item ∷ [])) (marks (item ∷ []))
 owned_item limits item o = record {
   items = item ∷ [];
   laid = item_laid limits item o;
-  own =
-      λ few. subst (λ n. Settles (uses (item ∷ [])) (marks (item ∷ [])) o.next n (item ∷ [])) (sym (laid_next limits item o))
+  own = λ few. subst (λ n. Settles (uses (item ∷ [])) (marks (item ∷ [])) o.next n (item ∷ [])) (sym (laid_next limits item o))
       (settles_item item o.next);
 }
 
 -- an instruction needs the label of its branch
 pub owned_parts_laid : (limits : Limits) (i : Parts) (needs : List ℕ) → operand_labels i.operands ≡ [] → branch_labels i.branch ≡ needs →
     Owned (laid limits (Item.Instruction i)) needs []
-owned_parts_laid limits i needs none e =
-    owned_wide {c = laid limits (Item.Instruction i)} {a = uses (Item.Instruction i ∷ [])} {b = needs}
+owned_parts_laid limits i needs none e = owned_wide {c = laid limits (Item.Instruction i)} {a = uses (Item.Instruction i ∷ [])} {b = needs}
     (λ n h. subst (λ ns. 1 ≤ times n ns) is h)
     (owned_item limits (Item.Instruction i))
   where
@@ -361,8 +347,7 @@ owned_instruction limits op operands store branch o =
 pub owned_naming : (limits : Limits) (op : Opcode) (v : ℕ) (operands : List Simple) (store : Option ℕ) (branch : Option Branch) →
     Owned (naming limits op v operands store branch) (branch_labels branch) []
 unfolding naming
-owned_naming limits op v operands store branch o =
-    owned_parts_laid limits
+owned_naming limits op v operands store branch o = owned_parts_laid limits
     (record { opcode = op; operands = Operand.Small v ∷ map written operands; store = store; branch = branch; text = [] })
     (branch_labels branch) (written_none operands) refl o
 
@@ -393,12 +378,10 @@ owned_routine {body} {needs} {given} limits v f o =
       laid = record {
         kept = x.laid.kept ∙ ap (λ k. kept_behind k x.items) (used_kept limits v o);
         fits = λ e. used_fits limits v o (x.laid.fits e);
-        code =
-            λ e. x.laid.code e ∙ ap (λ k. code_behind k x.items (used limits v o).code) (used_kept limits v o)
+        code = λ e. x.laid.code e ∙ ap (λ k. code_behind k x.items (used limits v o).code) (used_kept limits v o)
             ∙ ap (λ c. code_behind o.kept x.items c) (used_code limits v o);
       };
-      own =
-          λ few. subst (λ n. Settles needs given n (body (routine limits v o) (used limits v o)).next x.items) (used_next limits v o)
+      own = λ few. subst (λ n. Settles needs given n (body (routine limits v o) (used limits v o)).next x.items) (used_next limits v o)
           (x.own few);
     }
 
@@ -415,12 +398,7 @@ pub record Idle (o p : Out) : Type 0 where
   pub fits : p.past ≡ None → o.past ≡ None
 
 pub idle_then : (o p q : Out) → Idle o p → Idle p q → Idle o q
-idle_then o p q x y = record {
-  code = y.code ∙ x.code;
-  next = y.next ∙ x.next;
-  kept = y.kept ∙ x.kept;
-  fits = λ e. x.fits (y.fits e);
-}
+idle_then o p q x y = record { code = y.code ∙ x.code; next = y.next ∙ x.next; kept = y.kept ∙ x.kept; fits = λ e. x.fits (y.fits e) }
 
 idle_owns : {c d : Code} {needs given : List ℕ} (o p : Out) → Idle o p → d o ≡ c p → Owns c needs given p → Owns d needs given o
 idle_owns {c} {d} {needs} {given} o p i e x = record {
@@ -428,8 +406,7 @@ idle_owns {c} {d} {needs} {given} o p i e x = record {
   laid = record {
     kept = ap (λ (q : Out). q.kept) e ∙ (x.laid.kept ∙ ap (λ k. kept_behind k x.items) i.kept);
     fits = λ h. i.fits (x.laid.fits (ap (λ (q : Out). q.past) (sym e) ∙ h));
-    code =
-        λ h. ap (λ (q : Out). q.code) e ∙ (x.laid.code (ap (λ (q : Out). q.past) (sym e) ∙ h)
+    code = λ h. ap (λ (q : Out). q.code) e ∙ (x.laid.code (ap (λ (q : Out). q.past) (sym e) ∙ h)
         ∙ (ap (λ k. code_behind k x.items p.code) i.kept ∙ ap (code_behind o.kept x.items) i.code));
   };
   own = λ few.
@@ -446,8 +423,7 @@ low_idle limits true text o = record { code = refl; next = refl; kept = refl; fi
 low_idle limits false text o = record { code = refl; next = refl; kept = refl; fits = λ e. past_none e }
 
 packed_owned : Owned (λ o. record o { texts = late o.texts }) [] []
-packed_owned o =
-    idle_owns {c = nothing} {d = λ o. record o { texts = late o.texts }} o (record o { texts = late o.texts })
+packed_owned o = idle_owns {c = nothing} {d = λ o. record o { texts = late o.texts }} o (record o { texts = late o.texts })
     (record { code = refl; next = refl; kept = refl; fits = λ e. e }) refl (owned_nothing {needs = []} (record o { texts = late o.texts }))
 
 prints_owned : (limits : Limits) (op : Opcode) (text : Out → List ℕ)

@@ -50,8 +50,7 @@ programs_compute keeps w limits tree h d o program stack temp s t n k v =
     (r.0, q.0, q.1))
 
 pub programs_push : ProgramsPush
-programs_push keeps w limits tree h o program stack temp s t n k v =
-    programs_compute keeps w limits tree h 0 o program stack temp s t n k v
+programs_push keeps w limits tree h o program stack temp s t n k v = programs_compute keeps w limits tree h 0 o program stack temp s t n k v
 
 pub examples_are_evaluated : ExamplesAreEvaluated
 unfolding laid instruction naming marked jumped behind test_branch tests triple_tests single_tests and_branch assign_value

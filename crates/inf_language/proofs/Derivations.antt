@@ -43,12 +43,7 @@ last_apart [] atom (s ∷ x ∷ seen) are = cc
 last_apart (a ∷ front) atom [] are = cc
 last_apart (a ∷ front) atom (s ∷ seen) are =
     let on = last_apart front atom seen (same_rest are) in
-    record {
-      tokens = s ∷ on.tokens;
-      last = on.last;
-      same = ap (λ l. s ∷ l) on.same;
-      atoms = same_both (same_first are) on.atoms;
-    }
+    record { tokens = s ∷ on.tokens; last = on.last; same = ap (λ l. s ∷ l) on.same; atoms = same_both (same_first are) on.atoms }
 
 pub seen_front : (tokens : List Seen) (last : Seen) → AreSeen (atoms_of (tokens ++ last ∷ [])) (tokens_of (tokens ++ last ∷ []))
     → AreSeen (atoms_of tokens) (tokens_of tokens)

@@ -37,8 +37,7 @@ took_beside context t (Some place) u w =
     nested_beside context t.place (opens t.kind && is_too_deep u.depth (open_depth v.constructs) 0) v u
 
 -- A token is taken by the unit, and reported beside that.
-pub took_is_told : (context : Context) (t : SourceToken) (u : Unit) (w : Compilation)
-    → let v = taken t u in
+pub took_is_told : (context : Context) (t : SourceToken) (u : Unit) (w : Compilation) → let v = taken t u in
     took context t (record w { unit = u })
     ≡ record (token_told context t v.depth (long_at (longest context) v) (outer_tokens v) w) { unit = v }
 took_is_told context t u w = took_beside context t (long_at (longest context) (taken t u)) (taken t u) w
@@ -102,8 +101,7 @@ stepped_gathers GatherStep.Action u = refl
 stepped_gathers GatherStep.System u = refl
 stepped_gathers _ u = refl
 
-played_gathers : (r : Role) (u : Unit) → is_some (step_in r) ≡ true
-    → unit_played r u ≡ record u { gathering = (unit_played r u).gathering }
+played_gathers : (r : Role) (u : Unit) → is_some (step_in r) ≡ true → unit_played r u ≡ record u { gathering = (unit_played r u).gathering }
 played_gathers (Role.Gather s) u is = stepped_gathers s u
 played_gathers _ u is = cc
 
@@ -117,8 +115,7 @@ played_alone limits context place _ w is = cc
 
 step_acts : (limits : Limits) (context : Context) (place : Place) (a : Action) (w : Compilation) (u : Unit) → is_step a ≡ true
     → act limits context place a (record w { unit = u }) ≡ record w { unit = record u { gathering = (acted a u).gathering } }
-step_acts limits context place a w u is =
-    played_alone limits context place (role_of a) (record w { unit = u }) is
+step_acts limits context place a w u is = played_alone limits context place (role_of a) (record w { unit = u }) is
     ∙ ap (λ (x : Unit). record w { unit = x }) (acted_gathers a u is)
 
 -- The tokens of an expression and the steps that gather it, one by one
@@ -154,14 +151,12 @@ told_beside limits context next before u (Took atom ∷ events) (s ∷ seen) g b
     let is_more : taken t now ≡ more = ap (λ tokens. record more { tokens = tokens }) (append_assoc before front (t ∷ [])) in
     let count : length (before ++ so_far) - length before ≡ length so_far =
     let all_tokens = length-append before so_far in omega (arith, all_tokens) in
-    let one : took context t (record w { unit = now }) ≡ record told { unit = more } =
-    took_is_told context t now w
+    let one : took context t (record w { unit = now }) ≡ record told { unit = more } = took_is_told context t now w
     ∙ (ap (λ (x : Unit). record (token_told context t x.depth (long_at (longest context) x) (outer_tokens x) w) { unit = x }) is_more
     ∙ (ap (λ p. record (token_told context t behind p (length (before ++ so_far) - length before) w) { unit = more })
     (too_many_is before so_far (longest context))
     ∙ ap (λ n. record (token_told context t behind (first_past (longest context) so_far) n w) { unit = more }) count)) in
-    let still_none : told.opening ≡ None =
-    told_opening context t behind (first_past (longest context) so_far) (length so_far) w ∙ none in
+    let still_none : told.opening ≡ None = told_opening context t behind (first_past (longest context) so_far) (length so_far) w ∙ none in
     ap (λ x. run limits context (happenings_before next events seen) (next_comes (passed s.behind x))) one
     ∙ (ap (run limits context (happenings_before next events seen)) (none_waits (passed s.behind (record told { unit = more })) still_none)
     ∙ (told_beside limits context next before u events seen g behind so_far (passed s.behind told) steps all still_none

@@ -20,8 +20,7 @@ got_behind [] x = refl
 got_behind (y ∷ xs) x = got_behind xs x
 
 last_got : {A : Type 0} (xs : List A) (x : A) → slice_get (xs ++ x ∷ []) (length (xs ++ x ∷ []) - 1) ≡ Some x
-last_got xs x =
-    ap (slice_get (xs ++ x ∷ [])) (let count = length-append xs (x ∷ []) in omega (arith, count)) ∙ got_behind xs x
+last_got xs x = ap (slice_get (xs ++ x ∷ [])) (let count = length-append xs (x ∷ []) in omega (arith, count)) ∙ got_behind xs x
 
 all_but_last : {A : Type 0} (xs : List A) (x : A) → take (length (xs ++ x ∷ []) - 1) (xs ++ x ∷ []) ≡ xs
 all_but_last xs x =
@@ -37,19 +36,15 @@ name_taken t u goes_on is_name =
 
 local_read : (t : SourceToken) (u : Unit) → u.is_over ≡ false → t.kind ≡ TokenKind.Name
     → acted Action.Local (taken t u) ≡ record u { headed = with_local (as_name t) u.headed }
-local_read t u goes_on is_name =
-    ap headed_more (name_taken t u goes_on is_name)
-    ∙ (ap (λ tokens. record u {
-      headed = headed_by (name_by (slice_get (u.tokens ++ t ∷ []) (length (u.tokens ++ t ∷ []) - 1))) u.headed;
-      tokens = tokens;
-    }) (all_but_last u.tokens t)
-    ∙ (ap (λ last. record u { headed = headed_by (name_by last) u.headed }) (last_got u.tokens t)
+local_read t u goes_on is_name = ap headed_more (name_taken t u goes_on is_name) ∙ (ap (λ tokens. record u {
+  headed = headed_by (name_by (slice_get (u.tokens ++ t ∷ []) (length (u.tokens ++ t ∷ []) - 1))) u.headed;
+  tokens = tokens;
+}) (all_but_last u.tokens t) ∙ (ap (λ last. record u { headed = headed_by (name_by last) u.headed }) (last_got u.tokens t)
     ∙ ap (λ k. record u { headed = headed_by (name_of_kind k t.bytes t.place) u.headed }) is_name))
 
 pub headers_have_their_locals : HeadersHaveTheirLocals
 headers_have_their_locals [] u are goes_on = refl
-headers_have_their_locals (t ∷ names) u are goes_on =
-    ap (locals_read names) (local_read t u goes_on are.0)
+headers_have_their_locals (t ∷ names) u are goes_on = ap (locals_read names) (local_read t u goes_on are.0)
     ∙ headers_have_their_locals names (record u { headed = with_local (as_name t) u.headed }) are.1 goes_on
 
 -- Lemmas about compilations

@@ -26,8 +26,7 @@ nothing_left (Took atom ∷ events) = refl
 first_token : (actions : List Action) (atom : ℕ) (events : List (Event Action)) (s : Seen) (seen : List Seen)
     → happenings_of (events_of actions atom ++ events) (s ∷ seen) ≡ token_happenings s.token s.behind actions ++ happenings_of events seen
 first_token [] atom events s seen = refl
-first_token (a ∷ actions) atom events s seen =
-    ap (λ hs. Acts (plainly_at s.token.place) a ∷ hs) (first_token actions atom events s seen)
+first_token (a ∷ actions) atom events s seen = ap (λ hs. Acts (plainly_at s.token.place) a ∷ hs) (first_token actions atom events s seen)
 
 -- a token behind which no conditional directive closes statements ahead
 without_closing : (directive : Option Between) (count : ℕ) (s : Seen) (actions : List Action) (hs : List Happening) → directive ≡ None
@@ -44,8 +43,7 @@ texts_happen [] symbols left events leads spaced none = sym (nothing_left events
 texts_happen (s ∷ seen) symbols left events leads spaced none =
     let first = leads_only grammar known language_is_decided leads spaced in
     let now = taken grammar known s.atom symbols in
-    let still_spaced =
-    spaced_left grammar known language_is_decided s.atom (work known s.atom symbols) symbols first.fits_here spaced in
+    let still_spaced = spaced_left grammar known language_is_decided s.atom (work known s.atom symbols) symbols first.fits_here spaced in
     let others = texts_happen seen now.left left first.rest first.leads still_spaced none.1 in
     without_closing s.directive (closings now.left) s now.actions (all_happenings seen now.left) none.0
     ∙ (ap (λ hs. token_happenings s.token s.behind now.actions ++ hs) others
@@ -86,8 +84,7 @@ tokens_run limits context (s ∷ seen) symbols w none =
 pub texts_do_their_actions : (limits : Limits) → TextsDoTheirActions limits
 texts_do_their_actions limits = record {
   fit = λ rule seen events text. texts_fit seen (Symbol.Rule rule ∷ []) [] events text (rule_is_spaced rule);
-  act = λ rule seen events text none context w.
-      tokens_run limits context seen (Symbol.Rule rule ∷ []) w none
+  act = λ rule seen events text none context w. tokens_run limits context seen (Symbol.Rule rule ∷ []) w none
       ∙ ap (λ hs. run limits context hs (next_comes w))
       (texts_happen seen (Symbol.Rule rule ∷ []) [] events text (rule_is_spaced rule) none);
 }

@@ -5,11 +5,7 @@ use Rattle.std.proofs.Common.{inr, ◌==◌}
 use Rattle.std.proofs.lemmas.Bool.{agree_below, agree_below_at, and_parts, cases_lt}
 use Rattle.inf_machine.specs.{Pieces.all_rows, declared.symbols.Symbol.Symbol}
 use Rattle.inf_machine.specs.Grammar.{Did, Event, IsNext_not, IsOneOf, IsText, Leads, Row, Took, action, here, row, token, first, later}
-use Rattle.inf_syntax.specs.Parts.{address_operator, address_tail, after_prim, after_unary, array_operator, array_tail, assign, assign_tail}
-use Rattle.inf_syntax.specs.Parts.{assign_tail_1, bit, bracketed, call, call_1, call_2, expression, expression_tail, inc, logic_operator}
-use Rattle.inf_syntax.specs.Parts.{logic_tail, neg, negated, other_prim, plain_prim, post, post_tail, prefixed, prim, step_operator}
-use Rattle.inf_syntax.specs.Parts.{step_prefix, step_tail, sum, sum_operator, sum_tail, term, term_operator, term_tail, test, test_tail}
-use Rattle.inf_syntax.specs.Parts.{test_tail_1, tested, tested_1}
+use Rattle.inf_syntax.specs.declared.parts.names.TheConstants as Part
 use Rattle.inf_syntax.specs.declared.actions.Action.{Action}
 use Rattle.inf_grammar.specs.{Evaluated.rows_past, Language.grammar}
 use Rattle.inf_language.specs.Units.{AllSteps, is_step}
@@ -93,10 +89,13 @@ split {atoms = atoms} (row {rule} {r} {symbols} is_row free leads) none (x ∷ x
 -- The rules by which an expression is read as a value. Their rows have tokens, these rules, and actions that gather a step.
 abbrev expression_rules : List (Symbol Action)
 expression_rules =
-    assign ∷ assign_tail ∷ assign_tail_1 ∷ sum ∷ sum_operator ∷ sum_tail ∷ term ∷ term_operator ∷ term_tail ∷ bit ∷ array_operator
-    ∷ array_tail ∷ address_operator ∷ address_tail ∷ neg ∷ negated ∷ inc ∷ step_operator ∷ step_prefix ∷ step_tail ∷ call ∷ call_1 ∷ call_2
-    ∷ post ∷ post_tail ∷ prefixed ∷ prim ∷ plain_prim ∷ other_prim ∷ bracketed ∷ after_prim ∷ after_unary ∷ test ∷ test_tail ∷ test_tail_1
-    ∷ tested ∷ tested_1 ∷ logic_operator ∷ logic_tail ∷ expression ∷ expression_tail ∷ []
+    Part.ASSIGN ∷ Part.ASSIGN_TAIL ∷ Part.ASSIGN_TAIL_1 ∷ Part.SUM ∷ Part.SUM_OPERATOR ∷ Part.SUM_TAIL ∷ Part.TERM ∷ Part.TERM_OPERATOR ∷
+    Part.TERM_TAIL ∷ Part.BIT ∷ Part.ARRAY_OPERATOR
+    ∷ Part.ARRAY_TAIL ∷ Part.ADDRESS_OPERATOR ∷ Part.ADDRESS_TAIL ∷ Part.NEG ∷ Part.NEGATED ∷ Part.INC ∷ Part.STEP_OPERATOR ∷
+    Part.STEP_PREFIX ∷ Part.STEP_TAIL ∷ Part.CALL ∷ Part.CALL_1 ∷ Part.CALL_2
+    ∷ Part.POST ∷ Part.POST_TAIL ∷ Part.PREFIXED ∷ Part.PRIM ∷ Part.PLAIN_PRIM ∷ Part.OTHER_PRIM ∷ Part.BRACKETED ∷ Part.AFTER_PRIM ∷
+    Part.AFTER_UNARY ∷ Part.TEST ∷ Part.TEST_TAIL ∷ Part.TEST_TAIL_1
+    ∷ Part.TESTED ∷ Part.TESTED_1 ∷ Part.LOGIC_OPERATOR ∷ Part.LOGIC_TAIL ∷ Part.EXPRESSION ∷ Part.EXPRESSION_TAIL ∷ []
 
 abbrev is_among : ℕ → List (Symbol Action) → Bool
 is_among rule [] = false
@@ -160,6 +159,6 @@ only_steps (row {rule} {r} {symbols} is_row free leads) all =
     let own = rows_keep (is_rule rule) (grammar.rows_of rule) both.0 (keeps_at rule) in
     only_steps leads (steps-append r.parts symbols (row_keeps (grammar.rows_of rule) r is_row own) both.1)
 
-pub assign_steps : all_steps (assign ∷ []) ≡ true
+pub assign_steps : all_steps (Part.ASSIGN ∷ []) ≡ true
 unfolding is_rule
 assign_steps = refl

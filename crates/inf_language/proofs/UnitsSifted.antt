@@ -36,8 +36,7 @@ nested_known : (context : Context) (place : Place) (is_deep : Bool) (w : Compila
 nested_known context place true w = refl
 nested_known context place false w = refl
 
-took_known : (context : Context) (t : SourceToken) (w : Compilation)
-    → known (took context t w) ≡ ((taken t w.unit, w.locals), w.output)
+took_known : (context : Context) (t : SourceToken) (w : Compilation) → known (took context t w) ≡ ((taken t w.unit, w.locals), w.output)
 took_known context t w =
     let with_token = record w { unit = taken t w.unit } in
     let v = sized context with_token in
@@ -59,8 +58,7 @@ value_known : (limits : Limits) (context : Context) (n : Note) (w : Compilation)
     → known (valued context n w) ≡ (value_read context.settings w.output (noted_whole n (read_of w)), w.output)
     → known (if is_crowded limits w then valued context n w else noted_of context n w)
     ≡ (value_noted limits context.settings w.output n (read_of w), w.output)
-value_known limits context n w plain sifted =
-    either_known (is_crowded limits w) (valued context n w) (noted_of context n w)
+value_known limits context n w plain sifted = either_known (is_crowded limits w) (valued context n w) (noted_of context n w)
     (value_read context.settings w.output (noted_whole n (read_of w))) (noted_whole n (read_of w)) w.output sifted plain
 
 noted_known : (limits : Limits) (context : Context) (n : Note) (w : Compilation) → is_kept_or_sifted n ≡ true

@@ -10,7 +10,7 @@ use Rattle.inf_code.specs.Code.{Routines, code_cells, known, rest, rest_behind}
 use Rattle.inf_dictionary.specs.Words.{dictionary_bytes}
 use Rattle.inf_link.specs.Areas.{order}
 use Rattle.inf_objects.specs.{Objects.ended, Objects.head_fixups, Objects.object_fixups, declared.objects.Object.Object}
-use Rattle.inf_objects.proofs.Written.{later_joined}
+use Rattle.inf_area.proofs.Joining.{later_count-append}
 use Rattle.inf_output.specs.Output.{Out, counted, full, full_of, full_past, less, or_full, past_by, whole}
 use Rattle.inf_properties.specs.{declared.sizes.Owner.Owner, declared.values.Property.Property}
 use Rattle.inf_properties.specs.Sizes.{bytes_of, fixups_of, size_of as property_size, total, with_table}
@@ -44,8 +44,8 @@ later_abbreviations places =
     let rest = story.undeclared (64 - length places) in
     omega (
       arith,
-      later_joined (front ++ declared) rest,
-      later_joined front declared,
+      later_count-append (front ++ declared) rest,
+      later_count-append front declared,
       later_undeclared 32,
       later_declared places,
       later_undeclared (64 - length places),
@@ -74,8 +74,7 @@ added a b few = min-eq_left few
 
 tables_added : (w g a v r p b : ℕ) → w + (g + (a + (v + (r + (p + b))))) ≤ 18446744073709551615
     → more (more (more w g) a) (more (more v (more r p)) b) ≡ w + (g + (a + (v + (r + (p + b)))))
-tables_added w g a v r p b few =
-    ap (λ x. more (more x a) (more (more v (more r p)) b)) (added w g (omega (arith, few)))
+tables_added w g a v r p b few = ap (λ x. more (more x a) (more (more v (more r p)) b)) (added w g (omega (arith, few)))
     ∙ ap (λ x. more x (more (more v (more r p)) b)) (added (w + g) a (omega (arith, few)))
     ∙ ap (λ x. more (w + g + a) (more (more v x) b)) (added r p (omega (arith, few)))
     ∙ ap (λ x. more (w + g + a) (more x b)) (added v (r + p) (omega (arith, few)))
@@ -109,10 +108,8 @@ both_used limit count others s = go (ltb limit count) refl
 
     go : (b : Bool) → ltb limit count ≡ b → full_of (less (rest_behind (cond b None (Some (limit - count))) 0) others) s None
         ≡ cond (ltb limit (count + others)) (Some s) None
-    go true e = ap (λ b. cond b (Some s) None)
-        (sym (lt-ltb limit (count + others) (omega (arith, ltb-true limit count e))))
-    go false e =
-        ap (λ b. full_of (less (cond b None (Some (limit - count - 0))) others) s None) (le-ltb (limit - count) 0 (omega arith))
+    go true e = ap (λ b. cond b (Some s) None) (sym (lt-ltb limit (count + others) (omega (arith, ltb-true limit count e))))
+    go false e = ap (λ b. full_of (less (cond b None (Some (limit - count - 0))) others) s None) (le-ltb (limit - count) 0 (omega arith))
         ∙ left (ltb (limit - count - 0) others) refl (ltb-false limit count e)
 
 -- the limits of an output that is finished
@@ -121,8 +118,7 @@ finished_code code = record code { has_begun = true; opened = None }
 
 full_at : (limits : Limits) (code : Routines) (refs : ℕ) → full_past (counted refs (whole limits (finished_code code)))
     ≡ first_passed limits (8 + size_of code.finished) (5 + later_count code.finished + refs)
-full_at limits code refs =
-    none_used (limits Setting.Labels) Setting.Labels
+full_at limits code refs = none_used (limits Setting.Labels) Setting.Labels
     (or_full None (full_of (rest (limits Setting.Code) (8 + size_of code.finished)) Setting.Code
     (full_of (less (rest_behind (rest (limits Setting.References) (5 + later_count code.finished)) 0) refs) Setting.References None)))
     ∙ some_used (limits Setting.Code) (8 + size_of code.finished) Setting.Code
@@ -132,8 +128,7 @@ full_at limits code refs =
 
 full_finished : (limits : Limits) (o : Out) → IsFinished o
     → full limits o ≡ first_passed limits (8 + size_of o.code.finished) (5 + later_count o.code.finished + references o.tables)
-full_finished limits o is =
-    ap (λ past. full_past (counted (references o.tables) (past_by limits past o.code))) is.unpassed
+full_finished limits o is = ap (λ past. full_past (counted (references o.tables) (past_by limits past o.code))) is.unpassed
     ∙ ap (λ begun. full_past (counted (references o.tables) (whole limits (record o.code { has_begun = begun })))) is.begun
     ∙ ap (λ opened. full_past (counted (references o.tables) (whole limits (record o.code { has_begun = true; opened = opened })))) is.closed
     ∙ full_at limits o.code (references o.tables)

@@ -97,26 +97,9 @@ told_first : (x y : Option Diagnostic) (fs gs : List Finding) → IsTold x fs �
 told_first None y fs gs none told before = subst (λ l. IsTold y (l ++ gs)) (sym none) told
 told_first (Some b) y fs gs told later before = first_before b fs gs told before
 
-told_second : (x y : Option Diagnostic) (fs gs : List Finding) → IsTold x fs → IsTold y gs → AreBefore gs fs →
-    IsTold (first_fault y x) (fs ++ gs)
-told_second x None fs gs told none before = subst (IsTold x) (sym (append-nil fs) ∙ ap (λ l. fs ++ l) (sym none)) told
-told_second x (Some b) fs gs later told before = second_before b fs gs told before
-
 -- a finding that a test decides
 abbrev found_if : Bool → Finding → List Finding
 found_if t f = cond t (f ∷ []) []
-
-told_if : (t : Bool) (f : Finding) → IsTold (cond t (Some f.blame) None) (found_if t f)
-told_if true f = told_one f
-told_if false f = refl
-
-among_if : (t : Bool) (f g : Finding) → Contains (found_if t f) g → g ≡ f
-among_if true f g among = one_of_one f g among
-among_if false f g among = absurd (one_of_none g among)
-
-choice : (t : Bool) (b : Diagnostic) (y : Option Diagnostic) → first_fault (cond t (Some b) None) y ≡ cond t (Some b) y
-choice true b y = refl
-choice false b y = refl
 
 -- Lemmas about headers
 
@@ -163,8 +146,7 @@ are_of-repeated before n first ls of is name =
     go false e = either-none (first_named name before)
 
 are_of-new : (before : List Name) (n : Name) (ls : List Local) → AreOf before ls → AreOf (before ++ n ∷ []) (ls ++ new_local n ∷ [])
-are_of-new before n ls of name =
-    local_of-push name ls (new_local n)
+are_of-new before n ls of name = local_of-push name ls (new_local n)
     ∙ ap (λ o. either o (cond (str_eq_ignore_ascii_case n.bytes name) (Some (new_local n)) None)) (of name)
     ∙ go (first_named name before) (str_eq_ignore_ascii_case n.bytes name)
     ∙ ap (option_map new_local) (sym (first_named-push name before n))
@@ -197,14 +179,12 @@ repeated_told files (Some first) token n = told_one (repeated_local files first 
 among_repeated : (files : FileNames) (o : Option Name) (token : ℕ) (n : Name) (g : Finding) → Contains (repeated_one files o token n) g →
     g.token ≡ token
 among_repeated files None token n g among = absurd (one_of_none g among)
-among_repeated files (Some first) token n g among =
-    ap (λ f. f.token) (one_of_one (repeated_local files first token n) g among)
+among_repeated files (Some first) token n g among = ap (λ f. f.token) (one_of_one (repeated_local files first token n) g among)
 
 among_repeats : (files : FileNames) (before : List Name) (token : ℕ) (names : List Name) (g : Finding) →
     Contains (repeated_locals files before token names) g → token ≤ g.token
 among_repeats files before token [] g among = absurd (one_of_none g among)
-among_repeats files before token (n ∷ names) g among =
-    go (Contains-append_cases (repeated_one files (first_named n.bytes before) token n)
+among_repeats files before token (n ∷ names) g among = go (Contains-append_cases (repeated_one files (first_named n.bytes before) token n)
     (repeated_locals files (before ++ n ∷ []) (token + 1) names) g among)
     (among_repeats files (before ++ n ∷ []) (token + 1) names g)
   where
@@ -227,8 +207,7 @@ repeats_told files before token (n ∷ names) =
     (λ f g here there. inl (omega (
       arith,
       among_repeated files (first_named n.bytes before) token n f here,
-      among_repeats files
-          (before ++ n ∷ []) (token + 1) names g there,
+      among_repeats files (before ++ n ∷ []) (token + 1) names g there,
     ))))
 
 -- where there are more than 15 locals there are still more behind further names
@@ -238,8 +217,7 @@ full_stays (n ∷ names) h full = full_stays names (with_local_by n (local_of n.
   where
     go : (o : Option Local) → (with_local_by n o h).are_too_many ≡ true
     go (Some l) = full
-    go None =
-        cond_both (ltb (length h.locals) most_locals) (record h { locals = h.locals ++ new_local n ∷ [] })
+    go None = cond_both (ltb (length h.locals) most_locals) (record h { locals = h.locals ++ new_local n ∷ [] })
         (record h { are_too_many = true }) (λ x. x.are_too_many ≡ true) (λ _. full) (λ _. refl)
 
 -- The findings of a header's locals: there are more than 15 different ones, or the first that comes again is told.
@@ -326,8 +304,7 @@ among_routine files FoundName.Unknown name g among = absurd (one_of_none g among
 
 -- The error that is told of a header: the least of its findings.
 abbrev header_fault : FileNames → Place → Option Again → Headed → Option Diagnostic
-header_fault files unit again h =
-    cond h.are_too_many (Some (too_many_locals unit).blame)
+header_fault files unit again h = cond h.are_too_many (Some (too_many_locals unit).blame)
     (first_fault (option_map (again_told files) again) (local_fault files h.repeated))
 
 header_fault_is : (files : FileNames) (tokens : List SourceToken) (unit : Place) (again : Option Again) (h : Headed) →
@@ -385,8 +362,7 @@ header_told limits files unit names name locals h (Fits fits few repeated) =
     (λ f g here there. inl (omega (
       arith,
       among_routine files (found_in name.bytes names) name f here,
-      among_repeats files [] 2 locals g
-          there,
+      among_repeats files [] 2 locals g there,
     )))))
 
 abbrev told_of : Limits → Context → Place → Headed → Name → Compilation → Option Diagnostic
@@ -412,8 +388,7 @@ pub headers_tell_the_first : (limits : Limits) → HeadersTellTheFirst limits
 headers_tell_the_first limits context place name others locals w named headed kept =
     let first = first_place w.unit.tokens place in
     let after = opened_by limits context first name w.unit.headed w in
-    let same : act limits context place Action.EndLocals w ≡ after =
-    ap (λ names. header_of limits context first names w) named
+    let same : act limits context place Action.EndLocals w ≡ after = ap (λ names. header_of limits context first names w) named
     ∙ ap (λ b. if b then passed true (record w { is_replaced = true; is_embedded = false; constructs = [] }) else after) kept in
     let all = header_findings context.names first w.output.names name locals in
     record {

@@ -40,8 +40,7 @@ reads_at : (limits : Limits) (context : Context) (t : SourceToken) (stack : List
     (read_at limits context t stack r w).reading ≡ read_by stack t r
 reads_at limits context t [] r w = go (is_end t.kind)
   where
-    go : (b : Bool) →
-        (cond b (record { reading = record r { mode = Recovery.Ended }; work = w })
+    go : (b : Bool) → (cond b (record { reading = record r { mode = Recovery.Ended }; work = w })
         (judged limits context t (piece_begun r) (work_begun w))).reading
         ≡ cond b (record r { mode = Recovery.Ended }) (judged_by t (piece_begun r))
     go true = refl
@@ -143,10 +142,7 @@ ends tokens r at empty =
     }
 
 pub no_token : At [] (piece_begun (between Recovery.Reads))
-no_token = record {
-  reads = refl;
-  is_read = record { r = record { events = []; left = piece }; is_read = refl; leaves = refl };
-}
+no_token = record { reads = refl; is_read = record { r = record { events = []; left = piece }; is_read = refl; leaves = refl } }
 
 -- the way in which tokens are passed over behind those of a piece is decided by their brackets
 skips_as : (tokens : List SourceToken) (r : Reading) → At tokens r → skip_of r.stack ≡ skip_behind (map atom_of tokens)
@@ -182,8 +178,7 @@ taken_now : (given : List Given) (tokens : List SourceToken) (r : Reading) (t : 
 taken_now given tokens r t e at = by_stack r.stack refl
   where
     by_stack : (stack : List (Symbol Action)) → r.stack ≡ stack → Now given r
-    by_stack [] empty =
-        Whole (tokens ++ t ∷ []) e (ends (tokens ++ t ∷ []) r at empty)
+    by_stack [] empty = Whole (tokens ++ t ∷ []) e (ends (tokens ++ t ∷ []) r at empty)
         (ap (λ m. record { mode = m; stack = r.stack }) at.reads ∙ ap (λ stack. record { mode = Recovery.Reads; stack = stack }) empty)
     by_stack (symbol ∷ symbols) some = Inside (tokens ++ t ∷ []) e at (λ empty. let never : [] ≡ symbol ∷ symbols = sym empty ∙ some in cc)
 
@@ -207,14 +202,12 @@ judged_now given tokens r t e at =
 -- Lemmas about the first token
 
 pub first : (g : Given) (r : Reading) → r ≡ between Recovery.Reads → Now (g ∷ []) (given_to g r)
-first (Kept t) r fresh =
-    subst (λ (x : Reading). Now (Kept t ∷ []) x) (sym (ap (λ (x : Reading). given_to (Kept t) x) fresh))
+first (Kept t) r fresh = subst (λ (x : Reading). Now (Kept t ∷ []) x) (sym (ap (λ (x : Reading). given_to (Kept t) x) fresh))
     (of_both (λ (x : Reading). Now (Kept t ∷ []) x) (is_end t.kind) (record (between Recovery.Reads) { mode = Recovery.Ended })
     (judged_by t (piece_begun (between Recovery.Reads)))
     (λ e. Ended t refl e refl)
     (λ _. judged_now [] [] (piece_begun (between Recovery.Reads)) t refl no_token))
-first (Unfit t) r fresh =
-    Skips [] (Unfit t) [] refl (begins [] (piece_begun (between Recovery.Reads)) no_token) tt
+first (Unfit t) r fresh = Skips [] (Unfit t) [] refl (begins [] (piece_begun (between Recovery.Reads)) no_token) tt
     (ap (λ (x : Reading). given_to (Unfit t) x) fresh)
 
 -- Lemmas about a further token
@@ -255,8 +248,7 @@ next g before r (Skips tokens wrong behind e begun is_bad at) on =
 
 onward : (given before : List Given) (r : Reading) → Now before r → GoesBehind given r → Stands (before ++ given) (all_given_to given r)
 onward [] before r now on = subst (λ gs. Stands gs r) (sym (append-nil before)) (stands before r now)
-onward (g ∷ given) before r now on =
-    subst (λ gs. Stands gs (all_given_to given (given_to g r))) (append_assoc before (g ∷ []) given)
+onward (g ∷ given) before r now on = subst (λ gs. Stands gs (all_given_to given (given_to g r))) (append_assoc before (g ∷ []) given)
     (onward given (before ++ g ∷ []) (given_to g r) (next g before r now on.0) on.1)
 
 pub kept_tokens_are_read : KeptTokensAreRead

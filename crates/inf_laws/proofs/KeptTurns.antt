@@ -37,16 +37,14 @@ answered_reading Nothing sources o s = refl
 
 pub carried_out_reading : (sources : Sources) (o : Choices) (s : State) → is_mode_ended s.reading.mode ≡ false →
     (carried_out sources o s).reading ≡ s.reading
-carried_out_reading sources o s going =
-    of_both (λ (x : State). x.reading ≡ s.reading) s.work.report.counts.is_over s
+carried_out_reading sources o s going = of_both (λ (x : State). x.reading ≡ s.reading) s.work.report.counts.is_over s
     (cond (is_mode_ended s.reading.mode) (left s) (answered s.work.asked sources o (asked_nothing s)))
     (λ _. refl)
     (λ _. ap (λ b. (cond b (left s) (answered s.work.asked sources o (asked_nothing s))).reading) going ∙ answered_reading s.work.asked
     sources o (asked_nothing s))
 
 pub rested_reading : (s : State) → (rested s).reading ≡ s.reading
-rested_reading s =
-    of_both (λ (x : State). x.reading ≡ s.reading) (has_ended s) s (cond (is_resting s) (piece_closed s) s) (λ _. refl)
+rested_reading s = of_both (λ (x : State). x.reading ≡ s.reading) (has_ended s) s (cond (is_resting s) (piece_closed s) s) (λ _. refl)
     (λ _. of_both (λ (x : State). x.reading ≡ s.reading) (is_resting s) (piece_closed s) s (λ _. refl) (λ _. refl))
 
 pub turn_reading : (limits : Limits) (sources : Sources) (o : Choices) (s : State) →

@@ -36,8 +36,7 @@ same_order a b same = go (eqb_tells a b)
 is_before_by : (a b : Finding) → Before a b → is_before a b ≡ true
 is_before_by a b (inl less) =
     ap (λ c. c || (nat_eq a.order b.order && ltb (error_number a.error) (error_number b.error))) (lt-ltb a.order b.order less)
-is_before_by a b (inr same) =
-    ap (λ c. ltb a.order b.order || c)
+is_before_by a b (inr same) = ap (λ c. ltb a.order b.order || c)
     (and_from (nat_eq a.order b.order) (ltb (error_number a.error) (error_number b.error)) (same_order a.order b.order same.0)
     (lt-ltb (error_number a.error) (error_number b.error) same.1))
     ∙ or-true (ltb a.order b.order)
@@ -118,10 +117,7 @@ lesser a b xs ys x y = go (is_before b a) refl
       one_right xs y.0,
       λ g one. behind_both b (no_later b a (before_by b a e)) (no_later_by b b (never_itself b)) g (one_either xs ys one),
     )
-    go false e = (
-      one_left ys x.0,
-      λ g one. behind_both a (no_later_by a a (never_itself a)) (no_later_by a b e) g (one_either xs ys one),
-    )
+    go false e = (one_left ys x.0, λ g one. behind_both a (no_later_by a a (never_itself a)) (no_later_by a b e) g (one_either xs ys one))
 
 pub least_of_lists : (x y : Option Finding) (xs ys : List Finding) → IsLeastOf x xs → IsLeastOf y ys → IsLeastOf (least_of_both x y) (xs ++ ys)
 least_of_lists None None xs ys none also = ap (λ l. l ++ ys) none ∙ also

@@ -37,8 +37,7 @@ units_declare limits n m o = go (declare_fault limits n.bytes o.names)
 pub operands_use : (limits : Limits) → OperandsUse limits
 operands_use limits n o = go (refer_fault limits n.bytes o.names)
   where
-    go : (r : Option ReferFault) →
-        (referred_by limits r n.bytes n.place o).names ≡ cond (is_some r) o.names
+    go : (r : Option ReferFault) → (referred_by limits r n.bytes n.place o).names ≡ cond (is_some r) o.names
         (with_used_by (found_in n.bytes o.names) n.bytes n.place o.names)
     go None = refl
     go (Some fault) = refl
@@ -91,8 +90,7 @@ few_fit limits (e ∷ events) t few =
     let more = one_more limits e t in
     let room : length t.names < limits Setting.Symbols = omega (arith, few) in (
       no_fault limits e t (lt-leb (limits Setting.Symbols) (length t.names) room),
-      few_fit limits events (with_event limits e t)
-          (omega (arith, few, more)),
+      few_fit limits events (with_event limits e t) (omega (arith, few, more)),
     )
 
 pub few_have_room : (limits : Limits) → FewHaveRoom limits
@@ -108,12 +106,10 @@ standing_of-put key new s (n ∷ names) = go (bytes_eq new n.name) refl (standin
     go : (t : Bool) → bytes_eq new n.name ≡ t → standing_of key (put new s names) ≡ cond (bytes_eq key new) (Some s) (standing_of key names)
         → standing_of key (cond t (record { name = n.name; standing = s } ∷ names) (n ∷ put new s names)) ≡ cond (bytes_eq key new) (Some s)
         (cond (bytes_eq key n.name) (Some n.standing) (standing_of key names))
-    go true e later =
-        cond-again (bytes_eq key n.name) (Some s) (Some n.standing) (standing_of key names)
+    go true e later = cond-again (bytes_eq key n.name) (Some s) (Some n.standing) (standing_of key names)
         ∙ ap (λ k. cond (bytes_eq key k) (Some s) (cond (bytes_eq key n.name) (Some n.standing) (standing_of key names)))
         (sym (same_key new n.name e))
-    go false e later =
-        ap (λ o. cond (bytes_eq key n.name) (Some n.standing) o) later
+    go false e later = ap (λ o. cond (bytes_eq key n.name) (Some n.standing) o) later
         ∙ cond-swap (bytes_eq key n.name) (bytes_eq key new) (Some n.standing) (Some s) (standing_of key names)
         (λ a b. let same : new ≡ n.name = sym (same_key key new b) ∙ same_key key n.name a in
         let never : true ≡ false = sym (key_same new n.name same) ∙ e in cc)
@@ -123,8 +119,7 @@ system_same : (debugging : Bool) (a b : List ℕ) → folded a ≡ folded b → 
 system_same debugging a b e = ap (λ k. meaning_if debugging (find (λ known. bytes_eq k (folded (name_of known))) system_names)) e
 
 found_same : (a b : List ℕ) (t : Table Place) → folded a ≡ folded b → found_in a t ≡ found_in b t
-found_same a b t e =
-    ap (λ m. found_as m (standing_of (folded a) t.names)) (system_same t.is_debugging a b e)
+found_same a b t e = ap (λ m. found_as m (standing_of (folded a) t.names)) (system_same t.is_debugging a b e)
     ∙ ap (λ k. found_as (system_meaning t.is_debugging b) (standing_of k t.names)) e
 
 -- the finding of a name after a declaration and after a use, of this name or another
@@ -155,15 +150,13 @@ other_used other = refl
 -- the state of one name leaves the finding of another as it is
 found-other : (name other : List ℕ) (s : Standing Place) (t : Table Place) → bytes_eq (folded name) (folded other) ≡ false →
     found_as (system_meaning t.is_debugging name) (standing_of (folded name) (put (folded other) s t.names)) ≡ found_in name t
-found-other name other s t e =
-    ap (found_as (system_meaning t.is_debugging name))
+found-other name other s t e = ap (found_as (system_meaning t.is_debugging name))
     (standing_of-put (folded name) (folded other) s t.names ∙ ap (λ b. cond b (Some s) (standing_of (folded name) t.names)) e)
 
 found-put : (name other : List ℕ) (s : Standing Place) (t : Table Place) → bytes_eq (folded name) (folded other) ≡ true → found_as
     (system_meaning t.is_debugging name) (standing_of (folded name) (put (folded other) s t.names)) ≡ found_as
     (system_meaning t.is_debugging name) (Some s)
-found-put name other s t e =
-    ap (found_as (system_meaning t.is_debugging name))
+found-put name other s t e = ap (found_as (system_meaning t.is_debugging name))
     (standing_of-put (folded name) (folded other) s t.names ∙ ap (λ b. cond b (Some s) (standing_of (folded name) t.names)) e)
 
 declared_behind : (limits : Limits) (name other : List ℕ) (m : Meaning) (place : Place) (t : Table Place) →
@@ -430,9 +423,7 @@ used_of-known key (n ∷ names) sound is = go (bytes_eq key n.name) refl is (use
     go : (t : Bool) → bytes_eq key n.name ≡ t → use_at (cond t (Some n.standing) (standing_of key names)) ≡ [] →
         (use_at (standing_of key names) ≡ [] → used_of names ≡ others key (used_of names)) →
         use_in n.standing ++ used_of names ≡ others key (use_in n.standing ++ used_of names)
-    go true e is later =
-        ap (λ u. u ++ used_of names) is
-        ∙ sym (others-behind key n names sound e)
+    go true e is later = ap (λ u. u ++ used_of names) is ∙ sym (others-behind key n names sound e)
         ∙ sym (others-drop key n.name n.standing (used_of names) sound.1 e)
     go false e is later = ap (λ u. use_in n.standing ++ u) (later is) ∙ sym (others-split key n.name n.standing (used_of names) sound.1 e)
 
@@ -478,8 +469,7 @@ used_of-put key s (n ∷ names) is = go (bytes_eq key n.name) is (used_of-put ke
         (is_some (standing_of key names) ≡ false → used_of (put key s names) ≡ used_of names ++ use_in s) → used_of
         (cond t (record { name = n.name; standing = s } ∷ names) (n ∷ put key s names)) ≡ (use_in n.standing ++ used_of names) ++ use_in s
     go true is later = cc
-    go false is later =
-        ap (λ u. use_in n.standing ++ u) (later is) ∙ sym (append_assoc (use_in n.standing) (used_of names) (use_in s))
+    go false is later = ap (λ u. use_in n.standing ++ u) (later is) ∙ sym (append_assoc (use_in n.standing) (used_of names) (use_in s))
 
 abbrev is_unknown : Found Place → Bool
 is_unknown Found.Unknown = true
@@ -536,20 +526,17 @@ fresh limits t (e ∷ events) = fresh_use t events e ++ fresh limits (with_event
 
 left-fresh : (limits : Limits) (e : Event) (events : List Event) (t : Table Place) → is_too_many limits e t ≡ false → Sound t.names →
     left events (used_of (with_event limits e t).names) ≡ left (e ∷ events) (used_of t.names) ++ fresh_use t events e
-left-fresh limits (Declares name m place) events t room sound =
-    ap (left events) (used_of-declaring limits name m place t sound)
+left-fresh limits (Declares name m place) events t room sound = ap (left events) (used_of-declaring limits name m place t sound)
     ∙ left-others name m place events (used_of t.names)
     ∙ sym (append-nil (left (Declares name m place ∷ events) (used_of t.names)))
-left-fresh limits (Uses name place) events t room sound =
-    ap (left events) (used_of-using limits name place t room)
+left-fresh limits (Uses name place) events t room sound = ap (left events) (used_of-using limits name place t room)
     ∙ filter-append (λ u. not (list_any (declares u.name) events)) (used_of t.names)
     (cond (is_unknown (found_in name t)) (one_use name place) [])
 
 used_then : (limits : Limits) (events : List Event) (t : Table Place) → HaveRoom limits events t → Sound t.names →
     used_of (with_events limits events t).names ≡ left events (used_of t.names) ++ fresh limits t events
 used_then limits [] t room sound = sym (append-nil (left [] (used_of t.names)) ∙ all_left (used_of t.names))
-used_then limits (e ∷ events) t room sound =
-    used_then limits events (with_event limits e t) room.1 (sound-event limits e t sound)
+used_then limits (e ∷ events) t room sound = used_then limits events (with_event limits e t) room.1 (sound-event limits e t sound)
     ∙ ap (λ u. u ++ fresh limits (with_event limits e t) events) (left-fresh limits e events t room.0 sound)
     ∙ append_assoc (left (e ∷ events) (used_of t.names)) (fresh_use t events e) (fresh limits (with_event limits e t) events)
 

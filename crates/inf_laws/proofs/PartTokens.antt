@@ -55,9 +55,6 @@ none_proper pending e = subst (λ ps. AreProper ps) (sym e) tt
 passed_fine : (c : Conditions) → AreProper c.pending → Fine (passed c)
 passed_fine c p = record { proper = p; clear = inl refl }
 
-taken_fine : (c : Conditions) → AreProper c.pending → Fine (taken c)
-taken_fine c p = record { proper = p; clear = inl refl }
-
 kept_fine : (c : Conditions) → c.pending ≡ [] → AllKept c → Fine (kept c)
 kept_fine c e all = record { proper = none_proper c.pending e; clear = inr (e, all) }
 
@@ -126,8 +123,7 @@ named_fine other bytes if_declared o p c proper all = unfit_fine c all
 
 went_fine : (wanted : Bool) (site : Site) (o : Out) (t : SourceToken) (k : Condition) (p : Pending) (c : Conditions) → AreProper c.pending →
     Fine (went_on wanted site o t k p c)
-went_fine wanted site o t k p c proper =
-    of_both Fine (is_whole k) (decided (verdict_of c.declared o k) wanted site.is_quiet k p c)
+went_fine wanted site o t k p c proper = of_both Fine (is_whole k) (decided (verdict_of c.declared o k) wanted site.is_quiet k p c)
     (taken (asking p.place p.is_inner wanted k (saying site.is_quiet (too_much site.longest t k) (tokens_counted site.is_quiet k c))))
     (λ _. let v : Verdict = verdict_of c.declared o k in
     effected_fine (Effect.Opens (cond wanted v.is_true (not v.is_true))) site.is_quiet p
@@ -215,8 +211,7 @@ taken_sign_fine place site o t c proper all =
       ];
     }
 
-unfit_sign_fine : (place : Place) (site : Site) (o : Out) (t : SourceToken) (c : Conditions) → AllKept c →
-    SignFine place site o t (unfit c)
+unfit_sign_fine : (place : Place) (site : Site) (o : Out) (t : SourceToken) (c : Conditions) → AllKept c → SignFine place site o t (unfit c)
 unfit_sign_fine place site o t c all = signed_fine place Forwarded.Unfit site o t (given_up c) refl all
 
 asked_sign_fine : (ks : List Condition) (wanted : Bool) (place : Place) (site : Site) (o : Out) (t : SourceToken) (p : Pending)
@@ -253,8 +248,7 @@ sign_fine None place site o t c proper all = offered_sign_fine c.pending place s
 passed_proper : (w : Option ConditionalWord) (t : SourceToken) (side : LeftOut) (c : Conditions) → AreProper c.pending →
     AreProper (passed_by w t side c).pending
 passed_proper None t side c proper = proper
-passed_proper (Some w) t side c proper =
-    of_both (λ (x : Conditions). AreProper x.pending) _
+passed_proper (Some w) t side c proper = of_both (λ (x : Conditions). AreProper x.pending) _
     (awaiting _ false (Awaits.End Effect.Nothing) (record (ended_by w c) { left_out = None; sign = None })) _
     (λ _. (tt, subst (λ ps. AreProper ps) (sym (ended_pending w c)) proper)) (λ _. proper)
 

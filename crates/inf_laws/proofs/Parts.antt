@@ -62,8 +62,7 @@ empty_not [] some = absurd (some refl)
 empty_not (s ∷ stack) some = refl
 
 goes_inside : (r : Reading) → r.mode ≡ Recovery.Reads → (r.stack ≡ [] → ⊥) → rests r ≡ false
-goes_inside r is some =
-    ap (λ m. (reads m && is_empty r.stack) || is_mode_ended m) is ∙ ap (λ b. b || false) (empty_not r.stack some)
+goes_inside r is some = ap (λ m. (reads m && is_empty r.stack) || is_mode_ended m) is ∙ ap (λ b. b || false) (empty_not r.stack some)
 
 passed_hash : (m : Recovery) → rests (between (passed m (TokenKind.Mark Mark.Hash))) ≡ false
 passed_hash Recovery.Reads = refl
@@ -167,8 +166,7 @@ step_comes limits o before s goes =
 
 carried_out_same : (sources : Sources) (o : Choices) (s : State) → ((carried_out sources o s).conditions.pending ≡ s.conditions.pending) ×
     ((carried_out sources o s).conditions.left_out ≡ s.conditions.left_out)
-carried_out_same sources o s =
-    of_both Same s.work.report.counts.is_over s (cond (is_mode_ended s.reading.mode) (left s)
+carried_out_same sources o s = of_both Same s.work.report.counts.is_over s (cond (is_mode_ended s.reading.mode) (left s)
     (answered s.work.asked sources o (asked_nothing s))) (λ _. (refl, refl))
     (λ _. of_both Same (is_mode_ended s.reading.mode) (left s) (answered s.work.asked sources o (asked_nothing s))
     (λ _. left_same s.nesting.waiting) (λ _. asked_same s.work.asked))
@@ -280,8 +278,7 @@ ended_parts s e =
 clear_parts : (s : State) → s.reading ≡ between Recovery.Reads → s.conditions.pending ≡ [] → s.conditions.left_out ≡ None →
     is_parted s ≡ true
 clear_parts s fresh none all =
-    let parts : may_part s.conditions ≡ true =
-    ap (λ ps. may_part (record s.conditions { pending = ps })) none
+    let parts : may_part s.conditions ≡ true = ap (λ ps. may_part (record s.conditions { pending = ps })) none
     ∙ ap (λ l. may_part (record s.conditions { pending = []; left_out = l })) all in
     ap (λ (r : Reading). has_ended s || (is_between r && may_part s.conditions)) fresh
     ∙ ap (λ b. has_ended s || b) parts
@@ -309,8 +306,7 @@ now_rests : (given : List Given) (r : Reading) → Now given r → rests r ≡ t
     (r ≡ between Recovery.Reads) ⊎ ((is_mode_ended r.mode ≡ true) × (r.stack ≡ []))
 now_rests given r (Inside tokens e at some) rest_now = absurd (no_end (sym rest_now ∙ goes_inside r at.reads some))
 now_rests given r (Whole tokens e piece at) rest_now = inl at
-now_rests given r (Skips tokens wrong behind e begun bad at) rest_now =
-    go (skipped (skip_behind (map atom_of tokens)) (wrong ∷ behind)) at
+now_rests given r (Skips tokens wrong behind e begun bad at) rest_now = go (skipped (skip_behind (map atom_of tokens)) (wrong ∷ behind)) at
   where
     go : (m : Recovery) → r ≡ between m → (r ≡ between Recovery.Reads) ⊎ ((is_mode_ended r.mode ≡ true) × (r.stack ≡ []))
     go Recovery.Reads same = inl same
@@ -318,9 +314,6 @@ now_rests given r (Skips tokens wrong behind e begun bad at) rest_now =
     go Recovery.SkipsRoutine same = absurd (no_end (sym rest_now ∙ ap rests same))
     go Recovery.SkipsDirective same = absurd (no_end (sym rest_now ∙ ap rests same))
 now_rests given r (Ended t e ends at) rest_now = inr (ap (λ (x : Reading). is_mode_ended x.mode) at, ap (λ (x : Reading). x.stack) at)
-
-going_on : (m : Recovery) → m ≡ Recovery.Reads → is_mode_ended m ≡ false
-going_on m e = ap is_mode_ended e
 
 rests_parts : (limits : Limits) (sources : Sources) (o : Choices) (s : State) (given : List Given) →
     Now given (stepped limits o s).reading →

@@ -48,21 +48,17 @@ record Passes (m : Mark) (before after : Recovery) : Type 0 where
 
 in_routine : Passes Mark.CloseBracket Recovery.SkipsRoutine Recovery.SkipsDirective
 in_routine = record {
-  stays = λ k going other.
-      ap (λ b. cond b Recovery.Ended (passed_mark Recovery.SkipsRoutine k)) going
+  stays = λ k going other. ap (λ b. cond b Recovery.Ended (passed_mark Recovery.SkipsRoutine k)) going
       ∙ ap (λ b. cond b Recovery.SkipsDirective Recovery.SkipsRoutine) other;
-  leaves = λ k is.
-      ap (λ b. cond b Recovery.Ended (passed_mark Recovery.SkipsRoutine k)) (mark_is_no_end Mark.CloseBracket k is)
+  leaves = λ k is. ap (λ b. cond b Recovery.Ended (passed_mark Recovery.SkipsRoutine k)) (mark_is_no_end Mark.CloseBracket k is)
       ∙ ap (λ b. cond b Recovery.SkipsDirective Recovery.SkipsRoutine) is;
 }
 
 in_directive : Passes Mark.Semicolon Recovery.SkipsDirective Recovery.Reads
 in_directive = record {
-  stays = λ k going other.
-      ap (λ b. cond b Recovery.Ended (passed_mark Recovery.SkipsDirective k)) going
+  stays = λ k going other. ap (λ b. cond b Recovery.Ended (passed_mark Recovery.SkipsDirective k)) going
       ∙ ap (λ b. cond b Recovery.Reads Recovery.SkipsDirective) other;
-  leaves = λ k is.
-      ap (λ b. cond b Recovery.Ended (passed_mark Recovery.SkipsDirective k)) (mark_is_no_end Mark.Semicolon k is)
+  leaves = λ k is. ap (λ b. cond b Recovery.Ended (passed_mark Recovery.SkipsDirective k)) (mark_is_no_end Mark.Semicolon k is)
       ∙ ap (λ b. cond b Recovery.Reads Recovery.SkipsDirective) is;
 }
 
@@ -77,8 +73,7 @@ module _ (m : Mark) (before after : Recovery) (passes : Passes m before after) w
       passes.stays k parts.1 parts.0
 
   rest_lacks : (g : Given) (given : List Given) → Lack m (g ∷ given) → Lack m given
-  rest_lacks g given lack =
-      (and_parts (not (is_mark m (token_in g).kind || is_end (token_in g).kind))
+  rest_lacks g given lack = (and_parts (not (is_mark m (token_in g).kind || is_end (token_in g).kind))
       (list_all (λ g. not (is_mark m (token_in g).kind || is_end (token_in g).kind)) given) lack).1
 
   -- each front of the tokens before the mark leads nowhere
@@ -96,10 +91,7 @@ module _ (m : Mark) (before after : Recovery) (passes : Passes m before after) w
       ap (λ y. skipped y (inside ++ g ∷ behind)) (first_stays x inside lack) ∙ goes_on inside g behind (rest_lacks x inside lack) is
 
   passes_to : (inside : List Given) (g : Given) → Lack m inside → is_mark m (token_in g).kind ≡ true → PassesTo before after inside g
-  passes_to inside g lack is = record {
-    stays = λ n le. front_stays inside n lack le;
-    ends = λ behind. goes_on inside g behind lack is;
-  }
+  passes_to inside g lack is = record { stays = λ n le. front_stays inside n lack le; ends = λ behind. goes_on inside g behind lack is }
 
 pub directives_are_skipped : DirectivesAreSkipped
 directives_are_skipped inside semicolon lack is =

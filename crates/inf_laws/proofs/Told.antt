@@ -31,8 +31,7 @@ same_tokens xs ys e = sym (kept_again xs) ∙ ap kept_of e ∙ kept_again ys
 
 onward : (given before : List Given) (r : Reading) → Now before r → GoesBehind given r → Now (before ++ given) (all_given_to given r)
 onward [] before r now on = subst (λ gs. Now gs r) (sym (append-nil before)) now
-onward (g ∷ given) before r now on =
-    subst (λ gs. Now gs (all_given_to given (given_to g r))) (append_assoc before (g ∷ []) given)
+onward (g ∷ given) before r now on = subst (λ gs. Now gs (all_given_to given (given_to g r))) (append_assoc before (g ∷ []) given)
     (onward given (before ++ g ∷ []) (given_to g r) (next g before r now on.0) on.1)
 
 -- Lemmas about a piece that goes on
@@ -47,9 +46,7 @@ open_at tokens r (Skips others wrong behind e begun is_bad at) reads on =
 
 some_at : (t : SourceToken) (tokens : List SourceToken) (s : ReaderState) → IsAt (t ∷ tokens) s → rests s.reading ≡ false →
     At (t ∷ tokens) s.reading
-some_at t tokens s at on =
-    open_at (t ∷ tokens) s.reading
-    (subst (λ (r : Reading). Now (map Kept (t ∷ tokens)) r) (sym at.is_read)
+some_at t tokens s at on = open_at (t ∷ tokens) s.reading (subst (λ (r : Reading). Now (map Kept (t ∷ tokens)) r) (sym at.is_read)
     (onward (map Kept tokens) (Kept t ∷ []) (given_to (Kept t) (between Recovery.Reads)) (first (Kept t) (between Recovery.Reads) refl)
     at.goes_on))
     at.reads on
@@ -66,15 +63,13 @@ open_stack stack r reads e on empty =
 module _ (limits : Limits) (context : Context) (tokens : List SourceToken) (t : SourceToken) (r : Reading) (w : Compilation)
     (at : At tokens r) where
   takes : BeginsPiece (map atom_of (tokens ++ t ∷ [])) → judged limits context t r w ≡ took limits context t r w
-  takes begun =
-      of_both (λ (x : ReaderState). x ≡ took limits context t r w) (fits grammar known (atom_of t) r.stack)
+  takes begun = of_both (λ (x : ReaderState). x ≡ took limits context t r w) (fits grammar known (atom_of t) r.stack)
       (took limits context t r w) (bad limits context t r w)
       (λ _. refl)
       (λ out. absurd (stops tokens r t at out begun))
 
   tells : (BeginsPiece (map atom_of (tokens ++ t ∷ [])) → ⊥) → judged limits context t r w ≡ bad limits context t r w
-  tells none =
-      of_both (λ (x : ReaderState). x ≡ bad limits context t r w) (fits grammar known (atom_of t) r.stack)
+  tells none = of_both (λ (x : ReaderState). x ≡ bad limits context t r w) (fits grammar known (atom_of t) r.stack)
       (took limits context t r w) (bad limits context t r w)
       (λ f. absurd (none (begins (tokens ++ t ∷ []) _ (goes tokens r t at f))))
       (λ _. refl)
@@ -83,8 +78,7 @@ module _ (limits : Limits) (context : Context) (tokens : List SourceToken) (t : 
 comes : (limits : Limits) (context : Context) (t : SourceToken) (stack : List (Symbol Action)) (r : Reading) (w : Compilation) →
     (is_end t.kind ≡ false) ⊎ (stack ≡ [] → ⊥)
     → read_at limits context t stack r w ≡ judged limits context t (at_hand_by stack r) (work_by stack w)
-comes limits context t [] r w (inl going) =
-    ap (λ b. cond b (record { reading = record r { mode = Recovery.Ended }; work = w })
+comes limits context t [] r w (inl going) = ap (λ b. cond b (record { reading = record r { mode = Recovery.Ended }; work = w })
     (judged limits context t (piece_begun r) (work_begun w))) going
 comes limits context t [] r w (inr some) = absurd (some refl)
 comes limits context t (symbol ∷ symbols) r w going = refl
@@ -99,8 +93,7 @@ hand_at : (tokens : List SourceToken) (s : ReaderState) → IsAt tokens s → (t
     At tokens (at_hand s.reading)
 hand_at [] s at is_open = subst (λ (r : Reading). At [] (at_hand r)) (sym at.is_read) no_token
 hand_at (t ∷ tokens) s at (inl none) = cc
-hand_at (t ∷ tokens) s at (inr on) =
-    subst (λ (r : Reading). At (t ∷ tokens) r) (sym (is_at_hand s.reading.stack s.reading
+hand_at (t ∷ tokens) s at (inr on) = subst (λ (r : Reading). At (t ∷ tokens) r) (sym (is_at_hand s.reading.stack s.reading
     (open_stack s.reading.stack s.reading at.reads refl on)))
     (some_at t tokens s at on)
 
@@ -119,8 +112,7 @@ tokens_are_taken_or_told limits context tokens t s at going = record {
     hand = hand_at tokens s at at.is_open
 
     same : given_at limits context (Kept t) s ≡ judged limits context t (at_hand s.reading) (work_by s.reading.stack s.work)
-    same =
-        ap (λ m. step_in limits m context t s.reading s.work) at.reads
+    same = ap (λ m. step_in limits m context t s.reading s.work) at.reads
         ∙ comes limits context t s.reading.stack s.reading s.work (goes_by t s at.reads going)
 
 pub unfit_tokens_are_told : (limits : Limits) → UnfitTokensAreTold limits

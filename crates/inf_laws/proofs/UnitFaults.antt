@@ -32,8 +32,7 @@ own_least limits context (Part.Statement s) w = of_statement s
     of_statement : (s : Statement) →
         IsLeastOf (own_finding limits context (Part.Statement s) w) (own_faults limits context (Part.Statement s) w)
     of_statement Statement.Assembly =
-        let own =
-        site_finding limits (site_of context w) w.output.names
+        let own = site_finding limits (site_of context w) w.output.names
         (map tree_in (trees_at (order w.unit.begun) Wanted.Operand (operands_of w) w)) in
         least_of_lists w.unit.passed own (listed w.unit.passed) (listed own) (least_listed w.unit.passed) (least_listed own)
     of_statement s = least_listed (own_finding limits context (Part.Statement s) w)

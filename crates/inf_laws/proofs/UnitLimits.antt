@@ -101,8 +101,7 @@ none_passed n past free = none_by past.symbols past.labels past.tables past.code
 
 within_by : (limits : Limits) (o : Out) (past : Option Past) → o.past ≡ past → StopsForALimit o
     → full_past (counted (references o.tables) (past_by limits past o.code)) ≡ None → IsWithin limits o
-within_by limits o (Some past) is stops free =
-    absurd (stops past is (none_passed (references o.tables) past free))
+within_by limits o (Some past) is stops free = absurd (stops past is (none_passed (references o.tables) past free))
 within_by limits o None is stops free =
     let fits = whole_fits limits o.code o.tables free in
     record {
@@ -139,7 +138,4 @@ conditional_keeps limits files first w stops =
     }
 
 pub units_keep_within : (limits : Limits) → UnitsKeepWithin limits
-units_keep_within limits = record {
-  unit = unit_keeps limits;
-  conditional = conditional_keeps limits;
-}
+units_keep_within limits = record { unit = unit_keeps limits; conditional = conditional_keeps limits }

@@ -1,11 +1,7 @@
 -- Letters behind others choose as they do alone, over the choices of those.
 use Rattle.std.proofs.Common.{◌≡◌, ℕ, List, [], ◌∷◌, Option, Some, None, refl, ap, ◌∙◌, option_map}
 use Rattle.inf_letters.specs.{declared.letters.Letters.Letters, declared.letters.Said.Said}
-use Rattle.inf_letters.specs.Letters.{alone, either, followed, none_spoken, paired, spoken, spoken_over, with_letters}
-
--- Choices over none are themselves, and none over choices leave them.
-pub none_over : (l : Letters) → spoken_over none_spoken l ≡ l
-none_over l = refl
+use Rattle.inf_letters.specs.Letters.{alone, either, followed, paired, spoken, spoken_over, with_letters}
 
 -- One choice more over others is one more of the upper ones.
 pub spoken-over : (s : Said) (l others : Letters) → spoken s (spoken_over l others) ≡ spoken_over (spoken s l) others

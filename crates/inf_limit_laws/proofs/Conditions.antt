@@ -107,8 +107,7 @@ closed_same [] c = (refl, refl, refl)
 closed_same (x ∷ inner) c = (refl, refl, refl)
 
 effected_same : (e : Effect) (is_quiet : Bool) (p : Pending) (c : Conditions) → Same c (effected_by e is_quiet p c).now
-effected_same Effect.Turns is_quiet p c =
-    of_both (λ (b : Behind). Same c b.now) (is_second (latest c)) (unmatched is_quiet p.place c)
+effected_same Effect.Turns is_quiet p c = of_both (λ (b : Behind). Same c b.now) (is_second (latest c)) (unmatched is_quiet p.place c)
     (passed (record (turned c) { left_out = Some (record { is_inner = not (is_none_open c.inner); levels = 0 }) }))
     (λ _. (refl, refl, refl)) (λ _. turned_same c.inner c)
 effected_same Effect.Closes is_quiet p c =
@@ -244,8 +243,7 @@ offered_judged is_front site o t c =
 -- A `#` that was held back, and the token behind it: a condition that goes on with a token and an action does not end with this token.
 
 more_tokens : (t : SourceToken) (u : SourceUnit) → outer_tokens u ≤ outer_tokens (unit_taken t u)
-more_tokens t u =
-    of_both (λ v. outer_tokens u ≤ outer_tokens v) u.is_over (record u { is_over = false })
+more_tokens t u = of_both (λ v. outer_tokens u ≤ outer_tokens v) u.is_over (record u { is_over = false })
     (record u { tokens = u.tokens ++ t ∷ []; depth = depth_behind t.kind u.depth }) (λ _. omega arith) (λ _. go u.is_sure u.outer)
   where
     go : (sure : Bool) (outer : Option ℕ) → outer_count u.tokens sure outer ≤ outer_count (u.tokens ++ t ∷ []) sure outer
@@ -282,11 +280,7 @@ both_few wanted site o t place (Symbol.Token class ∷ Symbol.Act a ∷ symbols)
     go true quiet = few
     go false quiet =
         let v = unit_taken t u in
-        max-le few (omega (
-          arith,
-          more_tokens t u,
-          tokens_within site.longest v (none_long (long_at site.longest v) t v.depth quiet),
-        ))
+        max-le few (omega (arith, more_tokens t u, tokens_within site.longest v (none_long (long_at site.longest v) t v.depth quiet)))
 both_few wanted site o t place other u p c goes few = cc
 
 -- Conditionals behind the `#` go on from those before it, and tokens are few behind the next token.
@@ -295,8 +289,7 @@ record Signed (premise : Type 0) (site : Site) (o : Out) (t : SourceToken) (befo
   few : premise → before.1 ≤ site.longest → FewTokens site.longest (offered false site o t c)
   tame : premise → AreTame c.conditions
 
-given_signed : {premise : Type 0} (site : Site) (o : Out) (t : SourceToken) (c : Conditions)
-    → Signed premise site o t (was c) (given_up c)
+given_signed : {premise : Type 0} (site : Site) (o : Out) (t : SourceToken) (c : Conditions) → Signed premise site o t (was c) (given_up c)
 given_signed site o t c =
     record { none = λ none. none; few = λ _. (offered_judged false site o t (given_up c)).few tt; tame = λ _. tt }
 
@@ -340,8 +333,7 @@ ended_by_same word c = turned_same c.inner c
 
 passed_same : (w : Option ConditionalWord) (t : SourceToken) (side : LeftOut) (c : Conditions) → Same c (passed_by w t side c)
 passed_same None t side c = (refl, refl, refl)
-passed_same (Some w) t side c =
-    of_both (Same c) ((side.levels == 0) && ends_at w (is_second (latest c)))
+passed_same (Some w) t side c = of_both (Same c) ((side.levels == 0) && ends_at w (is_second (latest c)))
     (awaiting (unwrap_or c.sign t.place) false (Awaits.End Effect.Nothing) (record (ended_by w c) { left_out = None; sign = None }))
     (record c { left_out = Some (record side { levels = levels_behind w side.levels }); sign = None }) (λ _. ended_by_same w c)
     (λ _. (refl, refl, refl))

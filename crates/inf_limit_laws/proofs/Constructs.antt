@@ -84,8 +84,7 @@ alone_sound {was} limits trees = made_sound (alone_made limits Any trees (any_tr
 pub record Gives {A : Type 0} (limits : Limits) (was : Before) (laying : Laying A) : Type 0 where
   pub keeps : (o : Out) → Counted limits was o → Counted limits was (laying o).1
 
-pub laid_gives : {limits : Limits} {was : Before} {L : Target → Type 0} {A : Type 0} {f : Laying A} → Laid limits L A f
-    → Gives limits was f
+pub laid_gives : {limits : Limits} {was : Before} {L : Target → Type 0} {A : Type 0} {f : Laying A} → Laid limits L A f → Gives limits was f
 laid_gives (Lays a m) = record { keeps = (made_sound m).keeps }
 laid_gives (Takes x next) = record { keeps = λ o h. h }
 laid_gives (Either true f g a b) = record { keeps = (laid_gives a).keeps }
@@ -111,8 +110,7 @@ ending_sound {was} limits c Kind.If = sound_mark c.next
 ending_sound {was} limits c Kind.Else = sound_mark c.end
 ending_sound {was} limits c Kind.While = sound_then (sound_jump c.next) (sound_mark c.end)
 ending_sound {was} limits c Kind.Do = sound_mark c.end
-ending_sound {was} limits c Kind.For =
-    sound_then (sound_mark c.next) (sound_then (step_sound limits (items_of c.step))
+ending_sound {was} limits c Kind.For = sound_then (sound_mark c.next) (sound_then (step_sound limits (items_of c.step))
     (sound_then (sound_jump c.top) (sound_mark c.end)))
 ending_sound {was} limits c (Kind.Objects how v) =
     sound_then (sound_mark c.next) (sound_then (made_sound (looped_on_made limits Any any_fixed how v c.top)) (sound_mark c.end))
@@ -272,8 +270,7 @@ ending_leaves limits c Kind.If = mark_leaves c.next
 ending_leaves limits c Kind.Else = mark_leaves c.end
 ending_leaves limits c Kind.While = leaves_then (jump_leaves c.next) (mark_leaves c.end)
 ending_leaves limits c Kind.Do = mark_leaves c.end
-ending_leaves limits c Kind.For =
-    leaves_then (mark_leaves c.next) (leaves_then (items_leave limits (items_of c.step))
+ending_leaves limits c Kind.For = leaves_then (mark_leaves c.next) (leaves_then (items_leave limits (items_of c.step))
     (leaves_then (jump_leaves c.top) (mark_leaves c.end)))
 ending_leaves limits c (Kind.Objects how v) =
     leaves_then (mark_leaves c.next) (leaves_then (on_leaves limits how v c.top) (mark_leaves c.end))
@@ -284,7 +281,6 @@ closed_few : (limits : Limits) (c : Construct) (o : Out) → Few limits o → Fe
 unfolding closed
 closed_few limits c o h = (ending_leaves limits c c.kind).leaves o h
 
-pub ended_few : (limits : Limits) (constructs : List Construct) (o : Out) → Few limits o →
-    Few limits (ended limits constructs o).1
+pub ended_few : (limits : Limits) (constructs : List Construct) (o : Out) → Few limits o → Few limits (ended limits constructs o).1
 ended_few limits [] o h = h
 ended_few limits (c ∷ constructs) o h = closed_few limits c o h

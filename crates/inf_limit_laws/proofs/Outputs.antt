@@ -156,16 +156,11 @@ pub open_keeps : {was : Before} (limits : Limits) (locals : ℕ) (is_lost : Bool
 open_keeps {was} limits locals is_lost o h = go (full_opened limits is_lost o.code)
   where
     go : (full : Option CodeLimit) → Counted limits was (opened_by limits full locals is_lost o)
-    go None = record {
-      same = h.same;
-      begun = λ e. refl;
-      room = λ p is free. opened_room limits locals is_lost o.code p (h.room p is free);
-    }
+    go None = record { same = h.same; begun = λ e. refl; room = λ p is free. opened_room limits locals is_lost o.code p (h.room p is free) }
     go (Some limit) = record {
       same = h.same;
       begun = λ e. cc;
-      room = λ p is free.
-          full_room (passed_limit limit (past_by limits o.past (with_none_open o.code))) is (limit_full limit
+      room = λ p is free. full_room (passed_limit limit (past_by limits o.past (with_none_open o.code))) is (limit_full limit
           (past_by limits o.past (with_none_open o.code))) free;
     }
 
@@ -240,13 +235,12 @@ closed_room limits kind o p r =
     record {
       begun = r.begun;
       few_labels = omega arith;
-      few_references = λ left is.
-          omega (
-            arith,
-            later_append o.code.finished cells,
-            later_closed o.code.scale kind (place_behind o.code.finished) o.code.opened,
-            r.few_references left is,
-          );
+      few_references = λ left is. omega (
+        arith,
+        later_append o.code.finished cells,
+        later_closed o.code.scale kind (place_behind o.code.finished) o.code.opened,
+        r.few_references left is,
+      );
     }
 
 by_closed : {was : Before} (limits : Limits) (kind : RoutineKind) (o : Out) → Counted limits was o → (fault : Option CloseFault)
@@ -259,8 +253,7 @@ by_closed {was} limits kind o h None = record {
 by_closed {was} limits kind o h (Some (CloseFault.Full limit)) = record {
   same = h.same;
   begun = λ e. cc;
-  room = λ p is free.
-      full_room (passed_limit limit (past_by limits o.past (with_none_open o.code))) is
+  room = λ p is free. full_room (passed_limit limit (past_by limits o.past (with_none_open o.code))) is
       (limit_full limit (past_by limits o.past (with_none_open o.code))) free;
 }
 by_closed {was} limits kind o h (Some (CloseFault.LabelMissing label)) = none_open_keeps limits o h
@@ -271,14 +264,12 @@ labels_counted : {was : Before} (limits : Limits) (left : Option ℕ) (o : Out) 
 labels_counted {was} limits None o h = record {
   same = h.same;
   begun = h.begun;
-  room = λ p is free.
-      full_room (passed_limit CodeLimit.Labels (past_of limits o)) is (limit_full CodeLimit.Labels (past_of limits o)) free;
+  room = λ p is free. full_room (passed_limit CodeLimit.Labels (past_of limits o)) is (limit_full CodeLimit.Labels (past_of limits o)) free;
 }
 labels_counted {was} limits (Some left) o h = h
 
 pub close_keeps : {was : Before} (limits : Limits) (kind : RoutineKind) → Keeps limits was (closed limits kind)
-close_keeps {was} limits kind o h =
-    labels_counted limits (past_of limits o).labels (code_closed limits kind o)
+close_keeps {was} limits kind o h = labels_counted limits (past_of limits o).labels (code_closed limits kind o)
     (by_closed limits kind o h (fault_closed limits kind o.code))
 
 -- Lemmas about how code or a condition begins
@@ -358,8 +349,7 @@ low_text_keeps {was} limits text o h = go (low_fits limits text o.tables.low_str
 
 pub word_keeps : {was : Before} (limits : Limits) (text : Text) (how : WordUse) (is_plural : Bool) →
     Keeps limits was (with_word limits text how is_plural)
-word_keeps {was} limits text how is_plural o h =
-    go (add_fault limits (word_of text o.tables.dictionary.list) how o.tables.dictionary)
+word_keeps {was} limits text how is_plural o h = go (add_fault limits (word_of text o.tables.dictionary.list) how o.tables.dictionary)
   where
     go : (fault : Option WordFault) → Counted limits was (with_word_by limits fault text how is_plural o)
     go (Some WordFault.Full) = table_keeps limits Setting.DictionaryEntries o h

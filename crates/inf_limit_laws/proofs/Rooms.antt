@@ -110,8 +110,7 @@ labels_tighten n past = record {
 }
 
 whole_item_tightens : (item : Item) (past : Past) → Tightens (without item past) past
-whole_item_tightens (Item.Instruction parts) past =
-    tightens_then (taken_tightens (counts_of (front_cells parts)) past)
+whole_item_tightens (Item.Instruction parts) past = tightens_then (taken_tightens (counts_of (front_cells parts)) past)
     (bytes_tighten (length parts.text) (taken (counts_of (front_cells parts)) past))
 whole_item_tightens (Item.Mark label) past = taken_tightens (counts_of (Of (Special.Marks label) ∷ [])) past
 
@@ -158,13 +157,11 @@ of_strings true free = cc
 of_strings false free = cc
 
 pub table_full : (limit : Setting) (past : Past) → full_past (table_passed limit past) ≡ None → ⊥
-table_full limit past =
-    behind_full past.symbols Setting.Symbols past.labels (Some (first_table past.tables limit))
+table_full limit past = behind_full past.symbols Setting.Symbols past.labels (Some (first_table past.tables limit))
     (full_of past.code Setting.Code (if past.strings then Some Setting.Strings else full_of past.refs Setting.References None)) (λ e. cc)
 
 pub strings_full : (past : Past) → full_past (record past { strings = true }) ≡ None → ⊥
-strings_full past =
-    behind_full past.symbols Setting.Symbols past.labels past.tables (full_of past.code Setting.Code (Some Setting.Strings))
+strings_full past = behind_full past.symbols Setting.Symbols past.labels past.tables (full_of past.code Setting.Code (Some Setting.Strings))
     (of_table past.tables (full_of past.code Setting.Code (Some Setting.Strings)) (of_code past.code (Some Setting.Strings) (λ e. cc)))
 
 labels_full : (b : Bool) (s : Setting) (others : Option Setting) → cond b (Some s) (full_of None Setting.Labels others) ≡ None → ⊥
@@ -172,9 +169,7 @@ labels_full true s others free = cc
 labels_full false s others free = cc
 
 pub limit_full : (limit : CodeLimit) (past : Past) → full_past (passed_limit limit past) ≡ None → ⊥
-limit_full CodeLimit.Labels past =
-    labels_full past.symbols Setting.Symbols
-    (or_full past.tables (full_of past.code Setting.Code
+limit_full CodeLimit.Labels past = labels_full past.symbols Setting.Symbols (or_full past.tables (full_of past.code Setting.Code
     (if past.strings then Some Setting.Strings else full_of past.refs Setting.References None)))
 limit_full CodeLimit.Code past =
     let strings = if past.strings then Some Setting.Strings else full_of past.refs Setting.References None in
@@ -188,8 +183,7 @@ limit_full CodeLimit.Refs past =
 -- Lemmas about all rooms beside code
 
 whole_labels : (limits : Limits) (code : Routines) → full_past (whole limits code) ≡ None → labels code ≤ limits Setting.Labels
-whole_labels limits code =
-    go (ltb (limits Setting.Labels) (labels code)) refl
+whole_labels limits code = go (ltb (limits Setting.Labels) (labels code)) refl
     (full_of (rest (limits Setting.Code) (bytes_of_code code)) Setting.Code
     (full_of (rest_behind (rest (limits Setting.References) (reference_count code)) (references_open code.opened)) Setting.References None))
   where
@@ -221,8 +215,7 @@ past_room limits o h begun = go o.past refl
 -- Lemmas about ends of units
 
 pub counted_free : (n : ℕ) (past : Past) → full_past (counted n past) ≡ None → full_past past ≡ None
-counted_free n past =
-    lessened_free past past.labels past.code (less past.refs n) (λ e. e) (λ e. e) (less_none past.refs n)
+counted_free n past = lessened_free past past.labels past.code (less past.refs n) (λ e. e) (λ e. e) (less_none past.refs n)
 
 last_some : (x : Option ℕ) → full_of x Setting.References None ≡ None → (m : ℕ) × (x ≡ Some m)
 last_some None free = cc
@@ -274,8 +267,7 @@ unit_fits limits o h = go o.past refl
   where
     go : (past : Option Past) → o.past ≡ past → full_past (counted (references o.tables) (past_by limits past o.code)) ≡ None
         → Fits limits o
-    go None e free =
-        room_fits limits o (whole limits o.code) free
+    go None e free = room_fits limits o (whole limits o.code) free
         (whole_labels limits o.code (counted_free (references o.tables) (whole limits o.code) free))
         (behind_some (limits Setting.References) (reference_count o.code) (references_open o.code.opened))
     go (Some p) e free =

@@ -83,8 +83,7 @@ stepped_on atom (suc n) [] tame fit few = cc
 stepped_on atom (suc n) (Symbol.Token class ∷ symbols) tame fit few =
     let both = and_parts (not (has_sign class) || is_before_act symbols) (is_tame symbols) tame in (
       both.1,
-      λ is. second_holds (has_sign class) (is_before_act symbols)
-          (subst (λ (a : ℕ). has (grammar.atoms_of class) a ≡ true) is fit) both.0,
+      λ is. second_holds (has_sign class) (is_before_act symbols) (subst (λ (a : ℕ). has (grammar.atoms_of class) a ≡ true) is fit) both.0,
     )
 stepped_on atom (suc n) (Symbol.Act a ∷ symbols) tame fit few = stepped_on atom n symbols tame fit (omega (arith, few))
 stepped_on atom (suc n) (Symbol.Rule rule ∷ symbols) tame fit few =
@@ -116,7 +115,6 @@ begun_tame atom fit = go (work known atom piece) (omega arith)
 
     go : (n : ℕ) → work known atom piece ≤ n → is_tame (left_of atom n piece) ≡ true
     go zero few = absurd (no_step atom piece few fit)
-    go (suc n) few =
-        behind_tame atom n (row ++ [])
+    go (suc n) few = behind_tame atom n (row ++ [])
         (ap is_tame_behind (append-nil row) ∙ chosen_passes (λ rule. rule == 1) is_tame_behind pieces_tame atom 1 [] refl fit)
         (fits_row atom 1 [] fit) (omega (arith, few, chosen_less grammar known language_is_decided atom 1 [] fit))

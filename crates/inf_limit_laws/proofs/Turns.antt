@@ -93,8 +93,7 @@ module _ {limits : Limits} {context : Context} where
   either_walks false w x y f g = g
 
   judged_walks : (t : SourceToken) (r : Reading) (w : Compilation) → Runs limits context w (token_judged limits context t r w).work
-  judged_walks t r w =
-      either_walks (fits grammar known (atom_of t) r.stack) w (took limits context t r w) (bad limits context t r w)
+  judged_walks t r w = either_walks (fits grammar known (atom_of t) r.stack) w (took limits context t r w) (bad limits context t r w)
       (took_token_walks t r w) (bad_walks t r w)
 
   -- a piece begins
@@ -103,8 +102,7 @@ module _ {limits : Limits} {context : Context} where
 
   at_walks : (t : SourceToken) (stack : List (Symbol Action)) (r : Reading)
       (w : Compilation) → Runs limits context w (read_at limits context t stack r w).work
-  at_walks t [] r w =
-      either_walks (is_end t.kind) w (record { reading = record r { mode = Recovery.Ended }; work = w })
+  at_walks t [] r w = either_walks (is_end t.kind) w (record { reading = record r { mode = Recovery.Ended }; work = w })
       (token_judged limits context t (piece_begun r) (work_begun w)) Nowhere
       (Then (piece_walks w) (judged_walks t (piece_begun r) (work_begun w)))
   at_walks t (symbol ∷ symbols) r w = judged_walks t r w
@@ -136,8 +134,7 @@ module _ {limits : Limits} {context : Context} where
 
   lone_walks : (place : Option Place) (s : ReaderState) → Runs limits context s.work (lone_told place context s).work
   lone_walks None s = Nowhere
-  lone_walks (Some place) s =
-      Tells (with_lone context.names place) (lone_stays context.names place)
+  lone_walks (Some place) s = Tells (with_lone context.names place) (lone_stays context.names place)
 
   pub ended_walks : (place : Option Place) (s : ReaderState) → Runs limits context s.work (unit_ended limits place context s).work
   ended_walks None s = Nowhere
@@ -161,10 +158,7 @@ module _ {limits : Limits} {context : Context} where
   nowhere = record { runs = Nowhere; same = (refl, refl, refl) }
 
   then_goes : {s t u : State} → Goes limits context s t → Goes limits context t u → Goes limits context s u
-  then_goes f g = record {
-    runs = Then f.runs g.runs;
-    same = (g.same.0 ∙ f.same.0, g.same.1 ∙ f.same.1, g.same.2 ∙ f.same.2);
-  }
+  then_goes f g = record { runs = Then f.runs g.runs; same = (g.same.0 ∙ f.same.0, g.same.1 ∙ f.same.1, g.same.2 ∙ f.same.2) }
 
   -- one of two states
   either_goes : (b : Bool) {s : State} (x y : State) → Goes limits context s x → Goes limits context s y
@@ -328,8 +322,7 @@ before_token : (limits : Limits) (context : Context) (t : SourceToken) (j : Filt
     → is_over (judged_taken limits context t j s).work ≡ false → is_over s.work ≡ false
 before_token limits context t j s e =
     let told = lone_told j.unmatched context (token_taken limits j.token context t (sign_taken limits j.sign context s)) in
-    let f =
-    steps_then {limits = limits} {context = context} {was = unfollowed false} (ran (between_walks t j s))
+    let f = steps_then {limits = limits} {context = context} {was = unfollowed false} (ran (between_walks t j s))
     (ran (ended_walks j.ended told)) in
     f.on e
 

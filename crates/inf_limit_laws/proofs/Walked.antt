@@ -34,10 +34,7 @@ use Rattle.inf_limit_laws.proofs.Ways.{limits_end, nested_steps, report_steps, s
 module _ {limits : Limits} {context : Context} {was : Before} where
   pub constructs_lay : (w : Compilation) (laying : Laying (List Construct)) → LayingGives limits was laying
       → Lays limits context was w (constructs_laid laying w)
-  constructs_lay w laying gives = record {
-    on = λ e. e;
-    kept = λ e h. (h.0, (h.1.0, gives.keeps w.output h.1.1));
-  }
+  constructs_lay w laying gives = record { on = λ e. e; kept = λ e h. (h.0, (h.1.0, gives.keeps w.output h.1.1)) }
 
   constructs_step : (w : Compilation) (laying : Laying (List Construct)) → LayingGives limits was laying
       → (Few limits w.output → Few limits (laying w.output).1) → Steps limits context was w (constructs_laid laying w)
@@ -53,8 +50,7 @@ module _ {limits : Limits} {context : Context} {was : Before} where
       (joined_few limits w.constructs w.output)
 
   ending_steps : (w : Compilation) → Steps limits context was w (construct_ended limits w)
-  ending_steps w =
-      constructs_step w (ended limits w.constructs) (ended_gives limits w.constructs) (ended_few limits w.constructs w.output)
+  ending_steps w = constructs_step w (ended limits w.constructs) (ended_gives limits w.constructs) (ended_few limits w.constructs w.output)
 
   pub ahead_lays : (count : ℕ) (w : Compilation) → Lays limits context was w (closed_ahead limits count w)
   ahead_lays count w = record {
@@ -113,11 +109,9 @@ module _ {limits : Limits} {context : Context} {was : Before} where
     kept = λ e h. (h.0, (h.1.0, (alone_sound limits trees).keeps (apart w.output) h.1.1));
   }
   laid none (Cases {w}) = constructs_lay w (cases_begun limits w.constructs) (cases_gives limits w.constructs)
-  laid none (Enters {w} is_default) =
-      constructs_lay w (changed (entered limits is_default) w.constructs)
+  laid none (Enters {w} is_default) = constructs_lay w (changed (entered limits is_default) w.constructs)
       (changed_gives limits (entered limits is_default) (entered_gives limits is_default) w.constructs)
-  laid none (Loops {w} trees m) =
-      constructs_lay w (looped_over limits trees w.constructs) (looped_over_gives limits trees w.constructs)
+  laid none (Loops {w} trees m) = constructs_lay w (looped_over limits trees w.constructs) (looped_over_gives limits trees w.constructs)
   laid none (Over {w}) = constructs_lay w (ended limits w.constructs) (ended_gives limits w.constructs)
 
   -- Walks
@@ -126,11 +120,9 @@ module _ {limits : Limits} {context : Context} {was : Before} where
       → Walk limits context Q w r v t → Steps limits context was w v
   walked none (Rests {w} {v} stay same) = record {
     on = λ e. subst (λ (t : Out × Tallies). t.1.2.counts.is_over ≡ false) same e;
-    kept = λ e h.
-        subst (λ (t : Out × Tallies).
+    kept = λ e h. subst (λ (t : Out × Tallies).
         (was.is_exact ≡ true → t.1.0 ≤ longest context) × ((t.1.1 ≤ limits Setting.Labels) × Counted limits was t.0)) (sym same) h;
-    few = λ e h k.
-        subst (λ (t : Out × Tallies). reference_count t.0.code + references t.0.tables ≤ limits Setting.References) (sym same) k;
+    few = λ e h k. subst (λ (t : Out × Tallies). reference_count t.0.code + references t.0.tables ≤ limits Setting.References) (sym same) k;
   }
   walked none (After f g) = steps_then (walked none f) (walked none g)
   walked none (Behind {r} g f next) = steps_then (walked none f) (walked none (next r))
@@ -146,8 +138,7 @@ module _ {limits : Limits} {context : Context} {was : Before} where
   walked none (Begins {w} {v} first f) = lays_step (lays_then (begun_lays w) (lay_of (walked none f))) (limits_end first v)
   walked none (Leaves {w}) = body_steps w
   walked none (GivesUp {w}) = given_up_steps w
-  walked none (Starts {w} k) =
-      constructs_step w (begun limits k w.constructs) (begun_gives limits k w.constructs)
+  walked none (Starts {w} k) = constructs_step w (begun limits k w.constructs) (begun_gives limits k w.constructs)
       (begun_few limits k w.constructs w.output)
   walked none (Joins {w}) = joining_steps w
   walked none (Shuts {w}) = ending_steps w
@@ -168,8 +159,7 @@ ran {limits} (Settles {w} count files place) =
 module _ {limits : Limits} {context : Context} {was : Before} where
   pub act_steps : (place : Place) (a : Action) (w : Compilation) → (role_of a ≡ Role.End Ending.Abbreviation → was.abbreviations ≡ None)
       → Steps limits context was w (act limits context place a w)
-  act_steps place a w none =
-      walked {Q = λ e. e ≡ Ending.Abbreviation → was.abbreviations ≡ None} (λ q. q refl)
+  act_steps place a w none = walked {Q = λ e. e ≡ Ending.Abbreviation → was.abbreviations ≡ None} (λ q. q refl)
       (act_walks place a w (λ e is same. none (is ∙ ap Role.End same)) w.report)
 
   pub took_steps : (t : SourceToken) (w : Compilation) → Steps limits context was w (took context t w)

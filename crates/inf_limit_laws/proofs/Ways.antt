@@ -35,10 +35,7 @@ use Rattle.inf_limit_laws.proofs.Rooms.{Fits, counted_free, limit_full, rest_som
 
 module _ {limits : Limits} {context : Context} {was : Before} where
   pub lays_then : {a b c : Compilation} → Lays limits context was a b → Lays limits context was b c → Lays limits context was a c
-  lays_then {a} {b} {c} f g = record {
-    on = λ e. f.on (g.on e);
-    kept = λ e h. g.kept e (f.kept (g.on e) h);
-  }
+  lays_then {a} {b} {c} f g = record { on = λ e. f.on (g.on e); kept = λ e h. g.kept e (f.kept (g.on e) h) }
 
   pub lays_end : {a b c : Compilation} → Lays limits context was a b → Ends limits context was b c → Ends limits context was a c
   lays_end {a} {b} {c} f g = record {
@@ -55,11 +52,7 @@ module _ {limits : Limits} {context : Context} {was : Before} where
   }
 
   pub step_of : {a b : Compilation} → Ends limits context was a b → Steps limits context was a b
-  step_of {a} {b} f = record {
-    on = f.on;
-    kept = f.kept;
-    few = λ e h k. f.few e h;
-  }
+  step_of {a} {b} f = record { on = f.on; kept = f.kept; few = λ e h k. f.few e h }
 
   pub lay_of : {a b : Compilation} → Steps limits context was a b → Lays limits context was a b
   lay_of {a} {b} f = record { on = f.on; kept = f.kept }
@@ -111,8 +104,7 @@ module _ {limits : Limits} {context : Context} {was : Before} where
       let told = with_fault context.names first blame w.report in
       record {
         on = λ e. remains (end_adds context.names first blame (full limits w.output)) w.report e;
-        kept = λ e h.
-            (h.0, (max-le h.1.0 (fits_full limits context.names first w.output told e h.1.1).few_labels, h.1.1));
+        kept = λ e h. (h.0, (max-le h.1.0 (fits_full limits context.names first w.output told e h.1.1).few_labels, h.1.1));
         few = λ e h. (fits_full limits context.names first w.output told e h.1.1).few_references;
       }
 
@@ -129,8 +121,7 @@ module _ {limits : Limits} {context : Context} {was : Before} where
     kept = λ e h.
         let c = begin_keeps limits w.output h.1.1 in
         (h.0, (max-le h.1.0 (fits_full limits files first (begun limits w.output) w.report e c).few_labels, c));
-    few = λ e h.
-        (fits_full limits files first (begun limits w.output) w.report e (begin_keeps limits w.output h.1.1)).few_references;
+    few = λ e h. (fits_full limits files first (begun limits w.output) w.report e (begin_keeps limits w.output h.1.1)).few_references;
   }
 
 -- Lemmas about tokens
@@ -173,8 +164,7 @@ module _ {limits : Limits} {context : Context} {was : Before} where
     kept = λ free h. ((λ x. max-le (h.0 x) (tokens_within (longest context) w.unit e)), h.1);
     few = λ free h k. k;
   }
-  stopped_steps (Some place) w e =
-      report_steps w (with_fatal (location context.names place) (Exceeded Setting.ExpressionNodes))
+  stopped_steps (Some place) w e = report_steps w (with_fatal (location context.names place) (Exceeded Setting.ExpressionNodes))
       (remains (fatal_adds (location context.names place) (Exceeded Setting.ExpressionNodes)))
 
   pub sized_steps : (w : Compilation) → Steps limits context was w (sized context w)
@@ -211,8 +201,7 @@ closing_labels {was} limits how o h free = go (past_of limits o).labels refl fre
   where
     go : (left : Option ℕ) → (past_of limits o).labels ≡ left
         → full limits (with_labels_left limits left (code_closed limits how o)) ≡ None → labels o.code ≤ limits Setting.Labels
-    go None e none =
-        absurd (limit_full Limit.Labels (past_of limits (code_closed limits how o))
+    go None e none = absurd (limit_full Limit.Labels (past_of limits (code_closed limits how o))
         (counted_free (references (code_closed limits how o).tables)
         (passed_limit Limit.Labels (past_of limits (code_closed limits how o))) none))
     go (Some left) e none = by_labels limits how o h left e (fault_closed limits how o.code) none
@@ -231,8 +220,7 @@ closed_off limits how context place w = record w {
 pub close_as_ends : {limits : Limits} {context : Context} {was : Before} (how : RoutineKind) (place : Place) (w : Compilation)
     → Ends limits context was w (close_as limits how context place w)
 close_as_ends {limits} {context} {was} how place w = record {
-  on = λ e.
-      remains (routine_adds context place w.labels (fault_closed limits how w.output.code)) w.report
+  on = λ e. remains (routine_adds context place w.labels (fault_closed limits how w.output.code)) w.report
       (remains (all_unused_add context place w.locals)
       (with_routine_fault context place w.labels (fault_closed limits how w.output.code) w.report)
       ((unit_ends {limits = limits} {context = context} {was = was} place true nothing_found v).on e));
@@ -296,11 +284,7 @@ module _ {limits : Limits} {context : Context} {was : Before} where
   }
 
   pub given_up_steps : (w : Compilation) → Steps limits context was w (given_up w)
-  given_up_steps w = record {
-    on = λ e. e;
-    kept = λ e h. (h.0, (h.1.0, none_open_keeps limits w.output h.1.1));
-    few = λ e h k. k;
-  }
+  given_up_steps w = record { on = λ e. e; kept = λ e h. (h.0, (h.1.0, none_open_keeps limits w.output h.1.1)); few = λ e h k. k }
 
   -- code begins
   pub begun_lays : (w : Compilation) → Lays limits context was w (code_begun limits w)

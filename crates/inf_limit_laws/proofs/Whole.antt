@@ -157,13 +157,12 @@ four_fit settings none =
 
 start_few : (sources : Sources) (o : Choices) (name : List ℕ) → is_over (start sources o name).work ≡ false
     → AreFew (limits_of o.settings) (start sources o name).work
-start_few sources o name e =
-    omega (
-      arith,
-      no_references,
-      four_fit o.settings (none_full (start sources o name).nesting.names first_place
-          (tables_full o.settings) (letters_chosen o.letters (begun_stand o.settings).work).report e),
-    )
+start_few sources o name e = omega (
+  arith,
+  no_references,
+  four_fit o.settings (none_full (start sources o name).nesting.names first_place
+      (tables_full o.settings) (letters_chosen o.letters (begun_stand o.settings).work).report e),
+)
 
 start_holds : (sources : Sources) (o : Choices) (name : List ℕ) → Holds o (start sources o name)
 start_holds sources o name = record {
@@ -184,8 +183,7 @@ more_within a b limit few = omega (arith, few)
 within_by : (o : Choices) (s : State) (w : Compilation) → IsKept (limits_of o.settings) (context_of o s) exact w
     → AreFew (limits_of o.settings) w → s.conditions.most_tokens ≤ number_of Setting.ExpressionNodes o.settings
     → AreKept o.settings s.quoted s.conditions w
-within_by o s w kept few tokens =
-    (max-le (kept.0 refl) tokens, kept.1.0, more_within _ _ (number_of Setting.References o.settings) few)
+within_by o s w kept few tokens = (max-le (kept.0 refl) tokens, kept.1.0, more_within _ _ (number_of Setting.References o.settings) few)
 
 pub reached_within : (sources : Sources) (o : Choices) (name : List ℕ) (s : State) → IsReached sources o name s → is_over s.work ≡ false
     → AreKept o.settings s.quoted s.conditions s.work

@@ -100,8 +100,7 @@ step-comm number fixup other contents apart = by_name-same (two fixup other) (tw
   two f g name = does g name (area_of name (step number f contents))
 
   same : (name : AreaName) → two fixup other name ≡ two other fixup name
-  same name =
-      ap (does other name) (area_of-step number fixup contents name)
+  same name = ap (does other name) (area_of-step number fixup contents name)
       ∙ chosen-comm (rank fixup.area == rank name) (rank other.area == rank name) (with_number fixup.place (number fixup.target))
       (with_number other.place (number other.target)) (area_of name contents)
       (λ here there. with_number-comm (area_of name contents) fixup.place other.place (number fixup.target) (number other.target)

@@ -21,8 +21,7 @@ filled_area number (fixup ∷ fixups) area bytes =
 area_of-filled : (number : Target → ℕ) (fixups : List Fixup) (contents : Areas (List ℕ)) (area : AreaName) →
     area_of area (filled number fixups contents) ≡ filled_area number fixups area (area_of area contents)
 area_of-filled number [] contents area = refl
-area_of-filled number (fixup ∷ fixups) contents area =
-    area_of-filled number fixups (step number fixup contents) area
+area_of-filled number (fixup ∷ fixups) contents area = area_of-filled number fixups (step number fixup contents) area
     ∙ ap (filled_area number fixups area) (area_of-step number fixup contents area)
 
 filled_area-append : (number : Target → ℕ) (fixups others : List Fixup) (area : AreaName) (bytes : List ℕ) →
@@ -158,16 +157,7 @@ order_rises = (
         itself 3,
         (
           itself 4,
-          (
-            itself 5,
-            (
-              itself 6,
-              (
-                itself 7,
-                (itself 8, (itself 9, (itself 10, (itself 11, (itself 12, (itself 13, (itself 14, tt))))))),
-              ),
-            ),
-          ),
+          (itself 5, (itself 6, (itself 7, (itself 8, (itself 9, (itself 10, (itself 11, (itself 12, (itself 13, (itself 14, tt)))))))))),
         ),
       ),
     ),
@@ -220,29 +210,25 @@ filled_area-areas number cells area from (other ∷ names) rises is =
           ∙ filled_area-others number (fixups_in cells names) area (numbered number (area_of area cells))
           (λ fixup isf e. let behind : rank other + 1 ≤ rank fixup.area = in_areas cells (rank other + 1) names fixup rises.1 isf in omega
           (arith, e, same))
-      go false there found rest =
-          ap (filled_area number (fixups_in cells names) area)
+      go false there found rest = ap (filled_area number (fixups_in cells names) area)
           (filled_area-others number (fixups_of other 0 (area_of other cells)) area bytes
           (λ fixup isf e. absurd (cc (
             there,
-            eq-eqb (rank other) (rank area) (sym (ap rank
-                (in_cells other 0 (area_of other cells) fixup isf).0) ∙ e),
+            eq-eqb (rank other) (rank area) (sym (ap rank (in_cells other 0 (area_of other cells) fixup isf).0) ∙ e),
           ))))
           ∙ rest found
 
 -- areas of cells where the fixups of all are filled
 filled-cells : (number : Target → ℕ) (cells : Areas (List Cell)) →
     filled number (cells_fixups cells) (cells_contents cells) ≡ by_name (λ area. numbered number (area_of area cells))
-filled-cells number cells =
-    by_name-same (λ area. area_of area (filled number (cells_fixups cells) (cells_contents cells)))
+filled-cells number cells = by_name-same (λ area. area_of area (filled number (cells_fixups cells) (cells_contents cells)))
     (λ area. numbered number (area_of area cells))
     (λ area. area_of-filled number (cells_fixups cells) (cells_contents cells) area
     ∙ ap (filled_area number (cells_fixups cells) area) (area_of-by_name (λ n. bytes_of (area_of n cells)) area)
     ∙ filled_area-areas number cells area 0 order order_rises (has_each area))
 
 pub sizes-cells : (cells : Areas (List Cell)) → lengths (cells_contents cells) ≡ cells_sizes cells
-sizes-cells cells =
-    by_name-same (λ area. length (area_of area (cells_contents cells))) (λ area. size_of (area_of area cells))
+sizes-cells cells = by_name-same (λ area. length (area_of area (cells_contents cells))) (λ area. size_of (area_of area cells))
     (λ area. ap length (area_of-by_name (λ n. bytes_of (area_of n cells)) area) ∙ length-bytes_of (area_of area cells))
 
 length-numbered : (number : Target → ℕ) (cells : List Cell) → length (numbered number cells) ≡ size_of cells
@@ -253,8 +239,7 @@ length-numbered number ((Cell.Later target) ∷ cells) = omega (arith, length-nu
 -- numbers that are known later take as many bytes as were kept for them
 pub sizes-numbered : (number : Target → ℕ) (cells : Areas (List Cell)) →
     lengths (by_name (λ name. numbered number (area_of name cells))) ≡ cells_sizes cells
-sizes-numbered number cells =
-    by_name-same (λ area. length (area_of area (by_name (λ name. numbered number (area_of name cells)))))
+sizes-numbered number cells = by_name-same (λ area. length (area_of area (by_name (λ name. numbered number (area_of name cells)))))
     (λ area. size_of (area_of area cells))
     (λ area. ap length (area_of-by_name (λ name. numbered number (area_of name cells)) area) ∙ length-numbered number (area_of area cells))
 

@@ -12,8 +12,7 @@ pub filled-map : (contents areas : Areas (List ℕ)) (fixups : List Fixup) (targ
     → sizes ≡ lengths contents → map ≡ map_of sizes fields.scale → areas ≡ filled (number_of targets fields.scale map.bases) fixups contents
     → areas ≡ filled_areas contents fixups targets fields
 unfolding filled_areas
-filled-map contents areas fixups targets fields sizes map are_sizes is_map are_filled =
-    are_filled
+filled-map contents areas fixups targets fields sizes map are_sizes is_map are_filled = are_filled
     ∙ ap (λ m. filled (number_of targets fields.scale m.bases) fixups contents) is_map
     ∙ ap (λ s. filled (number_of targets fields.scale (map_of s fields.scale).bases) fixups contents) are_sizes
 

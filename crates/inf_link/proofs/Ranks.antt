@@ -27,8 +27,7 @@ below_too x y z not_below below = go (cmp y x) refl where
   go Greater e = ap is_lt (order.trans x y z (order.antisymm x y ∙ ap ordering_reverse (sym e)) (less (cmp y z) below))
 
 partitioned : (text : Text) (words : List Text) → IsSorted cmp words → IsPartitionedBy (λ word. is_below word text) words
-partitioned text words sorted i j d le lt h =
-    below_too (slice_index_or words i d) (slice_index_or words j d) text
+partitioned text words sorted i j d le lt h = below_too (slice_index_or words i d) (slice_index_or words j d) text
     (sorted_far (λ x y. is_lt (cmp x y)) (ranks_by order (λ x. x)) words sorted i j d le lt) h
 
 counted : (text : Text) (words : List Text) (i : ℕ) → i ≤ length words →

@@ -47,8 +47,7 @@ length-with_area s contents area bytes =
 length-joined : (s : Scale) (contents : Areas (List ℕ)) (names : List AreaName) (bytes : List ℕ)
     → 64 + length (joined s contents names bytes) ≡ aligned s (end_of (lengths contents) s (64 + length bytes) names)
 length-joined s contents [] bytes = ap (λ n. 64 + n) (length-padded s bytes) ∙ sym (aligned-behind s (length bytes))
-length-joined s contents (area ∷ names) bytes =
-    length-joined s contents names (with_area s contents area bytes)
+length-joined s contents (area ∷ names) bytes = length-joined s contents names (with_area s contents area bytes)
     ∙ ap (λ n. aligned s (end_of (lengths contents) s n names)) (length-with_area s contents area bytes)
 
 -- areas are joined behind the bytes before them
@@ -136,8 +135,7 @@ header_words : (fields : HeaderFields) (bases : Areas ℕ) (bytes : List ℕ) �
     → HasAt 0x1A (header fields bases bytes ++ bytes) (number_bytes ((64 + length bytes) / scale_number fields.scale)) × HasAt 0x1C
     (header fields bases bytes ++ bytes) (number_bytes (sum bytes % 65536))
 unfolding header_front header_back
-header_words fields bases bytes six =
-    with_six (λ serial. HasAt 0x1A (header (record fields { serial = serial }) bases bytes ++ bytes)
+header_words fields bases bytes six = with_six (λ serial. HasAt 0x1A (header (record fields { serial = serial }) bases bytes ++ bytes)
     (number_bytes ((64 + length bytes) / scale_number fields.scale))
     × HasAt 0x1C (header (record fields { serial = serial }) bases bytes ++ bytes) (number_bytes (sum bytes % 65536)))
     (λ a b c d e f. (refl, refl)) fields.serial six
@@ -176,8 +174,7 @@ areas_stand_at_their_bases contents fields six area =
     let part = area_of area contents in
     let all : head ++ behind ≡ (head ++ here.before) ++ (part ++ here.behind) =
     ap (λ xs. head ++ xs) here.are ∙ sym (append_assoc head here.before (part ++ here.behind)) in
-    let place : length (head ++ here.before) ≡ base_of (lengths contents) fields.scale area =
-    length-append head here.before
+    let place : length (head ++ here.before) ≡ base_of (lengths contents) fields.scale area = length-append head here.before
     ∙ ap (λ n. n + length here.before) (length-header fields (map_of (lengths contents) fields.scale).bases behind six) ∙ here.place in
     ap (λ xs. take (length part) (drop (base_of (lengths contents) fields.scale area) xs)) all
     ∙ ap (take (length part)) (drop_at (head ++ here.before) (part ++ here.behind) (base_of (lengths contents) fields.scale area) place)

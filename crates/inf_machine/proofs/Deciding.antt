@@ -105,8 +105,7 @@ module _ {A : Type 0} where
           (beginning g k r.parts == 0) && is_within r.unless (k.begins rule) && is_within (bit_and (k.begins rule) (k.follows rule))
           r.unless) else z) ≡ true → has r.unless atom ≡ true
       by_end false z e q = cc
-      by_end true true e q =
-          absurd (both_ways (has 0 atom) (has_zero atom)
+      by_end true true e q = absurd (both_ways (has 0 atom) (has_zero atom)
           (ap (λ s. has s atom) (sym (eqb-true (bit_and (k.begins rule) (k.follows rule)) 0 q)) ∙ both))
       by_end true false e q =
           let two = and_parts ((beginning g k r.parts == 0) && is_within r.unless (k.begins rule))

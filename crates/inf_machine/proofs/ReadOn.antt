@@ -52,8 +52,7 @@ module _ {A : Type 0} where
   reads_one g k symbols atoms atom left o f =
       record {
         r = record { events = o.r.events ++ (events_of n.actions atom ++ []); left = n.left };
-        is_read = read_append g k symbols atoms (atom ∷ [])
-            ∙ ap (λ x. read_on g k x (atom ∷ [])) o.is_read
+        is_read = read_append g k symbols atoms (atom ∷ []) ∙ ap (λ x. read_on g k x (atom ∷ [])) o.is_read
             ∙ ap (λ b. behind o.r.events (cond b (behind (events_of n.actions atom) (read g k n.left [])) None)) fits_there;
         leaves = ap (λ symbols. (taken g k atom symbols).left) o.leaves;
       }

@@ -82,11 +82,9 @@ module _ {A : Type 0} where
   pub begins_all : (g : Grammar A) (k : Known) (atom : ℕ) (rows : List (Row A)) (r : Row A) → IsOneOf r rows →
       fits g k atom r.parts ≡ true → has (all_beginnings g k rows) atom ≡ true
   begins_all g k atom [] r m h = elim m [ ]
-  begins_all g k atom (r ∷ rows) r' first h =
-      has_or (beginning g k r.parts) (all_beginnings g k rows) atom
+  begins_all g k atom (r ∷ rows) r' first h = has_or (beginning g k r.parts) (all_beginnings g k rows) atom
       ∙ or_left (has (beginning g k r.parts) atom) (has (all_beginnings g k rows) atom) (sym (fits_is_begun g k atom r.parts) ∙ h)
-  begins_all g k atom (y ∷ rows) r (later m) h =
-      has_or (beginning g k y.parts) (all_beginnings g k rows) atom
+  begins_all g k atom (y ∷ rows) r (later m) h = has_or (beginning g k y.parts) (all_beginnings g k rows) atom
       ∙ or_right (has (beginning g k y.parts) atom) (has (all_beginnings g k rows) atom) (begins_all g k atom rows r m h)
 
   -- an atom that begins no row chooses the other one
@@ -114,12 +112,9 @@ module _ {A : Type 0} where
 
       by_test : (has (all_beginnings g k rows) atom ≡ true → row_for g k atom one rows ≡ row_for g k atom other rows) → (b : Bool) →
           fits g k atom r.parts ≡ b → row_for g k atom one (r ∷ rows) ≡ row_for g k atom other (r ∷ rows)
-      by_test in_rest true e =
-          cond-true (fits g k atom r.parts) r.parts (row_for g k atom one rows) e
+      by_test in_rest true e = cond-true (fits g k atom r.parts) r.parts (row_for g k atom one rows) e
           ∙ sym (cond-true (fits g k atom r.parts) r.parts (row_for g k atom other rows) e)
-      by_test in_rest false e =
-          cond-false (fits g k atom r.parts) r.parts (row_for g k atom one rows) e
-          ∙ in_rest (rest e)
+      by_test in_rest false e = cond-false (fits g k atom r.parts) r.parts (row_for g k atom one rows) e ∙ in_rest (rest e)
           ∙ sym (cond-false (fits g k atom r.parts) r.parts (row_for g k atom other rows) e)
 
   -- a row that an atom chooses since it begins the row

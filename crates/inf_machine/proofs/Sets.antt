@@ -27,8 +27,7 @@ pub has_zero : (atom : ℕ) → has 0 atom ≡ false
 has_zero atom = ap (λ b. b == 1) (bit_at-zero atom)
 
 pub has_or : (x y atom : ℕ) → has (bit_or x y) atom ≡ (has x atom || has y atom)
-has_or x y atom =
-    ap (λ b. b == 1) (bit_at_or x y atom) ∙ one_of_two (bit_at x atom) (bit_at y atom) (bit_at-lt x atom) (bit_at-lt y atom)
+has_or x y atom = ap (λ b. b == 1) (bit_at_or x y atom) ∙ one_of_two (bit_at x atom) (bit_at y atom) (bit_at-lt x atom) (bit_at-lt y atom)
 
 pub has_and : (x y atom : ℕ) → has (bit_and x y) atom ≡ (has x atom && has y atom)
 has_and x y atom =
@@ -36,6 +35,5 @@ has_and x y atom =
 
 -- an atom of a set is in each set of which the set is a part
 pub has_within : (inner outer atom : ℕ) → is_within inner outer ≡ true → has inner atom ≡ true → has outer atom ≡ true
-has_within inner outer atom w h =
-    ap (λ s. has s atom) (sym (eqb-true (bit_or inner outer) outer w)) ∙ has_or inner outer atom
+has_within inner outer atom w h = ap (λ s. has s atom) (sym (eqb-true (bit_or inner outer) outer w)) ∙ has_or inner outer atom
     ∙ or_left (has inner atom) (has outer atom) h

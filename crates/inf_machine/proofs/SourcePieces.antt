@@ -119,8 +119,7 @@ module _ {A : Type 0} where
           let m = on p i (ap (fits g k atom) same ∙ f) in
           record {
             r = record { events = es ++ m.r.events; left = m.r.left };
-            are =
-                cond-true (fits g k x symbols) (behind es (read g k (taken g k x symbols).left (atoms ++ atom ∷ []))) None h
+            are = cond-true (fits g k x symbols) (behind es (read g k (taken g k x symbols).left (atoms ++ atom ∷ []))) None h
                 ∙ ap (behind es) m.are;
             same = m.same ∙ ap (λ s. (taken g k atom s).left) same;
           }
@@ -161,8 +160,7 @@ module _ {A : Type 0} where
       is_open : (front : List ℕ) (r : Read A) → read g k (Symbol.Rule rule ∷ []) front ≡ Some r → Closed g r.left → IsOpen g rule front
       is_open front r e o = (
         (bad_tokens_begin_nothing g k rule front d).0 (ap is_some e),
-        λ t. let a = (sources_end g k rule front d).0 t in no_end a.0 a.1
-            a.2,
+        λ t. let a = (sources_end g k rule front d).0 t in no_end a.0 a.1 a.2,
       )
         where
           no_end : (q : Read A) → read g k (Symbol.Rule rule ∷ []) front ≡ Some q → can_end k q.left ≡ true → ⊥
@@ -179,8 +177,7 @@ module _ {A : Type 0} where
       go n [] [] r l e o = ([], ended)
       go n (x ∷ front) [] r l e o = (
         Cut (x ∷ front) ∷ [],
-        subst (λ xs. ArePieces g rule further (Cut (x ∷ front) ∷ []) xs)
-            (sym (append-nil (x ∷ front))) (cut (is_open (x ∷ front) r e o)),
+        subst (λ xs. ArePieces g rule further (Cut (x ∷ front) ∷ []) xs) (sym (append-nil (x ∷ front))) (cut (is_open (x ∷ front) r e o)),
       )
       go zero front (a ∷ rest) r l e o = absurd (omega arith)
       go (suc n) front (a ∷ rest) r l e o = by_fit (λ f q s i j m. go n f q s i j m) (fits g k a r.left) refl

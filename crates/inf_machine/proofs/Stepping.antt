@@ -9,20 +9,6 @@ use Rattle.inf_machine.proofs.Reaching.{IsOn, Ends, on_passed, at_rule, at_other
 
 -- Lemmas about rows of steps
 
--- a step of a row changes where one is put, and nowhere else
-pub put_step : (steps : List Step) (atom : ℕ) (step : Step) (a : ℕ) →
-    (step_at (set steps atom step) a ≡ step_at steps a) ⊎ ((a ≡ atom) × (step_at (set steps atom step) a ≡ step))
-put_step [] atom step a = inl refl
-put_step (x ∷ steps) zero step zero = inr (refl, refl)
-put_step (x ∷ steps) zero step (suc a) = inl refl
-put_step (x ∷ steps) (suc atom) step zero = inl refl
-put_step (x ∷ steps) (suc atom) step (suc a) =
-    elim (put_step steps atom step a)
-    as (λ s. (step_at (set steps atom step) a ≡ step_at steps a) ⊎ ((suc a ≡ suc atom) × (step_at (set steps atom step) a ≡ step))) [
-      | inl e ↦ inl e
-      | inr e ↦ inr (ap suc e.0, e.1)
-    ]
-
 -- a row that grows by steps that were not met has the same steps
 pub padded : (steps : List Step) (n a : ℕ) → step_at (steps ++ replicate n Step.Refused) a ≡ step_at steps a
 padded [] zero a = refl
@@ -30,13 +16,6 @@ padded [] (suc n) zero = refl
 padded [] (suc n) (suc a) = padded [] n a
 padded (x ∷ steps) n zero = refl
 padded (x ∷ steps) n (suc a) = padded steps n a
-
--- a row without steps changes none of the others
-pub row_added : (rows : List (List Step)) (rule atom : ℕ) → step_of (rows ++ ([] ∷ [])) rule atom ≡ step_of rows rule atom
-row_added [] zero atom = refl
-row_added [] (suc rule) atom = refl
-row_added (row ∷ rows) zero atom = refl
-row_added (row ∷ rows) (suc rule) atom = row_added rows rule atom
 
 -- steps change in the row that is replaced, and in no other
 pub put_row : (rows : List (List Step)) (rule : ℕ) (row : List Step) (r a : ℕ) →
@@ -123,8 +102,7 @@ module _ {A : Type 0} where
 
   pub all_mean_on : (g : Grammar A) (k : Known) (made now more : List (ℕ × ℕ)) (rows : List (List Step)) →
       now ≡ made ++ more → AllMean g k made rows → AllMean g k now rows
-  all_mean_on g k made now more rows same all =
-      subst (λ made. AllMean g k made rows) (sym same)
+  all_mean_on g k made now more rows same all = subst (λ made. AllMean g k made rows) (sym same)
       (λ rule atom met. means_on g k made more rule atom (step_of rows rule atom) (all rule atom met))
 
   -- all steps mean what they did, and the one that was put means what it should
@@ -136,16 +114,14 @@ module _ {A : Type 0} where
       by_place : (step_of now r a ≡ step_of rows r a) ⊎ ((r ≡ rule) × (a ≡ atom) × (step_of now r a ≡ step)) →
           Means g k made r a (step_of now r a)
       by_place (inl e) = subst (Means g k made r a) (sym e) (all r a (ap is_kept (sym e) ∙ met))
-      by_place (inr e) =
-          subst (Means g k made r a) (sym e.2)
+      by_place (inr e) = subst (Means g k made r a) (sym e.2)
           (subst (λ n. Means g k made n a step) (sym e.0) (subst (λ n. Means g k made rule n step) (sym e.1) means))
 
   -- The walk at a rule, which is the last of the symbols below a place
 
   rule_is : (all now : List (Symbol A)) (below rule : ℕ) (x : Symbol A) → 0 < below → below ≤ length now → now ≡ all →
       x ≡ get_or now (below - 1) x → x ≡ Symbol.Rule rule → reverse (take below all) ≡ Symbol.Rule rule ∷ reverse (take (below - 1) all)
-  rule_is all now below rule x p l same at is =
-      subst (λ s. reverse (take below s) ≡ Symbol.Rule rule ∷ reverse (take (below - 1) s)) same
+  rule_is all now below rule x p l same at is = subst (λ s. reverse (take below s) ≡ Symbol.Rule rule ∷ reverse (take (below - 1) s)) same
       (top_is now below x p l at ∙ ap (λ s. s ∷ reverse (take (below - 1) now)) is)
 
   -- the walk goes on past a rule that is passed over

@@ -44,8 +44,7 @@ module _ {A : Type 0} where
             one = r.one;
             is = r.is;
             free = unless_of_begun g k atom rule r.row s.preferred r.fits_it;
-            fits_on =
-                fits_append g k atom r.row.parts symbols
+            fits_on = fits_append g k atom r.row.parts symbols
                 ∙ or_left (fits g k atom r.row.parts) (can_end k r.row.parts && fits g k atom symbols) r.fits_it;
             less = omega (arith, w, s.fewer, here_zero);
           }

@@ -27,8 +27,7 @@ module _ {A : Type 0} where
       let counted : 1 ≤ empty_rows k rows = omega (arith, of_rule.empties, cond-true {A = ℕ} (k.is_empty rule) 1 0 empty) in
       let r = some_is_empty k rows counted in
       let sound = sound_parts g k rule r.row (of_rule.sound r.row r.one) in
-      let unfit : fits g k atom r.row.parts ≡ false =
-      false_from_ne_true (fits g k atom r.row.parts)
+      let unfit : fits g k atom r.row.parts ≡ false = false_from_ne_true (fits g k atom r.row.parts)
       (λ b. both_ways (has (k.begins rule) atom) not_it
       (ap (λ s. has s atom) (sym of_rule.whole) ∙ begins_all g k atom rows r.row r.one b)) in
       record {
@@ -102,8 +101,7 @@ module _ {A : Type 0} where
       record {
         fits_on = ap (λ parts. fits g k atom (parts ++ symbols)) e ∙ both.1;
         less = omega (arith, as_work, here_on, p.some);
-        same = taken_row g k d atom rule symbols f
-            ∙ ap (λ parts. taken g k atom (parts ++ symbols)) p.is
+        same = taken_row g k d atom rule symbols f ∙ ap (λ parts. taken g k atom (parts ++ symbols)) p.is
             ∙ silent_passes g k d atom depth (empty_row k (g.rows_of rule)) symbols silent p.ends p.not_begun both.1
             ∙ ap (λ parts. taken g k atom (parts ++ symbols)) (sym e);
       }
@@ -122,22 +120,18 @@ module _ {A : Type 0} where
           is_silent g k depth (empty_row k rows) ≡ b → Way g k atom rule symbols
       by_silent not_it e true s =
           as_nothing g k d atom rule symbols f not_it s (e ∙ cond-true (is_silent g k depth (empty_row k rows)) [] (empty_row k rows) s)
-      by_silent not_it e false s =
-          as_chosen g k d atom rule symbols f
+      by_silent not_it e false s = as_chosen g k d atom rule symbols f
           (e ∙ cond-false (is_silent g k depth (empty_row k rows)) [] (empty_row k rows) s ∙ sym
           (none_chooses_other g k atom (empty_row k rows) rows (ap (λ s. has s atom) of_rule.whole ∙ not_it)))
 
       by_begun : (b : Bool) → has (k.begins rule) atom ≡ b → Way g k atom rule symbols
-      by_begun true e =
-          as_chosen g k d atom rule symbols f (begun_whatever g k atom (passed_row g k rows) (empty_row k rows) rows
+      by_begun true e = as_chosen g k d atom rule symbols f (begun_whatever g k atom (passed_row g k rows) (empty_row k rows) rows
           (ap (λ s. has s atom) of_rule.whole ∙ e))
-      by_begun false e =
-          by_silent e (none_chooses_other g k atom (passed_row g k rows) rows (ap (λ s. has s atom) of_rule.whole ∙ e))
+      by_begun false e = by_silent e (none_chooses_other g k atom (passed_row g k rows) rows (ap (λ s. has s atom) of_rule.whole ∙ e))
           (is_silent g k depth (empty_row k rows)) refl
 
   -- before an atom that does not begin the rule its way is the row of the rule passed over
   pub way_past : (g : Grammar A) (k : Known) → IsDecided g k → (atom rule : ℕ) → has (k.begins rule) atom ≡ false →
       passed_row g k (g.rows_of rule) ≡ way g k atom rule
-  way_past g k d atom rule e =
-      sym (none_chooses_other g k atom (passed_row g k (g.rows_of rule)) (g.rows_of rule)
+  way_past g k d atom rule e = sym (none_chooses_other g k atom (passed_row g k (g.rows_of rule)) (g.rows_of rule)
       (ap (λ s. has s atom) (decided_parts g k rule (d rule)).whole ∙ e))

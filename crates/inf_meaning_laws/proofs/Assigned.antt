@@ -43,8 +43,7 @@ pub assigned_value : {keeps : Bool} (w : World) (limits : Limits) (v : ℕ) (own
     Always w (m.value v ▸ load limits v d) (GivesValue keeps w (values.assigned w (values.aim_at v own) a).value d)
 assigned_value {keeps} w limits v true own m a h d =
     so (λ at from to p stack temp s n t e. none_some e) (then_ (h.value v) (load_ w limits v d))
-assigned_value {keeps} w limits v false own m a h d =
-    so (λ at from to p stack temp s n t e.
+assigned_value {keeps} w limits v false own m a h d = so (λ at from to p stack temp s n t e.
     let o = opened (a.value (with_variable v) s) (λ p. answer (taker d) (p.1.variables v) p.1) (n, t) e in
     let r = goes_to w a.value v own at from p.0 p.1 stack temp s o.0.0 o.0.1 o.1 in
     finish keeps w at from to (state stack temp s) d (o.0.1.variables v) n stack temp r.0 o.0.1 t r.1
@@ -55,8 +54,7 @@ pub assigned_alone : {keeps : Bool} (w : World) (limits : Limits) (v : ℕ) (own
     Means keeps w limits m a →
     Always w (m.value v) (GivesNothing w (forgotten (values.assigned w (values.aim_at v own) a).value))
 assigned_alone {keeps} w limits v true own m a h = so (λ at from to p stack temp s t e. none_some e) (h.value v)
-assigned_alone {keeps} w limits v false own m a h =
-    so (λ at from to p stack temp s t e.
+assigned_alone {keeps} w limits v false own m a h = so (λ at from to p stack temp s t e.
     let f = opened ((values.assigned w (Named v) a).value nobody s) (λ p. Some p.1) t e in
     let o = opened (a.value (with_variable v) s) (λ p. answer nobody (p.1.variables v) p.1) f.0 f.1 in
     let r = goes_to w a.value v own at from to p stack temp s o.0.0 o.0.1 o.1 in
@@ -143,15 +141,7 @@ element_means keeps w limits width args n b e two m a k h =
     (subst (λ v. Means false w limits (code.valued limits (λ d. call_routine limits v ps (Some d))
     (code.assigned_alone limits (InMemory (memory_of width) q.0) m)) (values.assigned w (Element width args) a)) (sym (setter_is width))
     (let c = supplied_means keeps w limits (values.setter width) ps all are few in
-    record {
-      operand = c.operand;
-      first = c.first;
-      others = c.others;
-      value = c.value;
-      alone = alone;
-      aims = c.aims;
-      branch = c.branch;
-    }))
+    record { operand = c.operand; first = c.first; others = c.others; value = c.value; alone = alone; aims = c.aims; branch = c.branch }))
 
 -- the size of a step, and whether it answers the new value
 by_part : {keeps : Bool} (w : World) (how : Direction) → IsPart keeps w (is (code.by how)) (number (values.step_by how))
@@ -207,8 +197,7 @@ pub before_value : {keeps : Bool} (w : World) (limits : Limits) (how : Direction
     Always w (code.stepping limits how v ▸ load limits v d) (GivesValue keeps w (values.stepped_before w how (values.aim_at v own)).value d)
 before_value {keeps} w limits how v true own d =
     so (λ at from to p stack temp s n t e. none_some e) (then_ (step_ w limits how v) (load_ w limits v d))
-before_value {keeps} w limits how v false own d =
-    so (λ at from to p stack temp s n t e.
+before_value {keeps} w limits how v false own d = so (λ at from to p stack temp s n t e.
     let u = values.with_step how v s in
     finish keeps w at from to (state stack temp s) d (u.variables v) n stack temp temp u t (kept_here keeps temp)
     (comes_then (p.1 (state stack temp s) own) (p.2 (state stack temp u) own))
@@ -235,16 +224,14 @@ always_left false a b = refl
 pub step_taken : (how : Direction) (v : ℕ) (d n : ℕ) (stack : List ℕ) (left : ℕ) (s : Store) →
     (record (taken d n stack left s) { store = values.with_step how v (taken d n stack left s).store })
     ≡ taken d n stack left (values.with_step how v s)
-step_taken how v d n stack left s =
-    step_taken_by (d == 0) (d == 255) how v d n stack left s
+step_taken how v d n stack left s = step_taken_by (d == 0) (d == 255) how v d n stack left s
     ∙ ap (λ t. taken d n stack left t) (always_left (is_own d) (values.with_step how v s) s)
 
 pub behind_value : {keeps : Bool} (w : World) (limits : Limits) (how : Direction) (v : ℕ) (own : Bool) → is_own v ≡ own → (d : ℕ) →
     Always w (load limits v d ▸ code.stepping limits how v) (GivesValue keeps w (values.stepped_behind w how (values.aim_at v own)).value d)
 behind_value {keeps} w limits how v true own d =
     so (λ at from to p stack temp s n t e. none_some e) (then_ (load_ w limits v d) (step_ w limits how v))
-behind_value {keeps} w limits how v false own d =
-    so (λ at from to p stack temp s n t e.
+behind_value {keeps} w limits how v false own d = so (λ at from to p stack temp s n t e.
     let x = s.variables v in
     let mid = taken d x stack temp (taker d x s) in
     let c = left_as (given_taken d x stack temp s) (p.1 (state stack temp s) own) in (
@@ -258,16 +245,14 @@ behind_value {keeps} w limits how v false own d =
 pub step_alone : (w : World) (limits : Limits) (how : Direction) (v : ℕ) (own : Bool) → is_own v ≡ own →
     Always w (code.stepping limits how v) (GivesNothing w (forgotten (values.stepped_before w how (values.aim_at v own)).value))
 step_alone w limits how v true own = so (λ at from to p stack temp s t e. none_some e) (step_ w limits how v)
-step_alone w limits how v false own =
-    so (λ at from to p stack temp s t e.
+step_alone w limits how v false own = so (λ at from to p stack temp s t e.
     (temp, subst (λ u. Comes w at from (state stack temp s) to (state stack temp u)) (same_some e) (p (state stack temp s) own)))
     (step_ w limits how v)
 
 pub step_alone_behind : (w : World) (limits : Limits) (how : Direction) (v : ℕ) (own : Bool) → is_own v ≡ own →
     Always w (code.stepping limits how v) (GivesNothing w (forgotten (values.stepped_behind w how (values.aim_at v own)).value))
 step_alone_behind w limits how v true own = so (λ at from to p stack temp s t e. none_some e) (step_ w limits how v)
-step_alone_behind w limits how v false own =
-    so (λ at from to p stack temp s t e.
+step_alone_behind w limits how v false own = so (λ at from to p stack temp s t e.
     (temp, subst (λ u. Comes w at from (state stack temp s) to (state stack temp u)) (same_some e) (p (state stack temp s) own)))
     (step_ w limits how v)
 

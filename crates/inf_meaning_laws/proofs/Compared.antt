@@ -137,8 +137,7 @@ number_first w n args s ns u e = by_worked (worked_all args s) e
 
 pub kept_instructs : (w : World) (limits : Limits) (ps : List Part) (args : List Arg) → AreParts true w ps args →
     Instructs true w limits (is (Simple.Variable TEMP) ∷ ps) (λ temp. number temp ∷ args)
-kept_instructs w limits ps args h op g act sense label =
-    so (λ at from rest p stack temp s b t e.
+kept_instructs w limits ps args h op g act sense label = so (λ at from rest p stack temp s b t e.
     let o = opened (values.values w (number temp ∷ args) s) (λ p. g p.1 p.0 then λ b. Some (b, p.1)) (b, t) e in
     let q = opened (g o.0.1 o.0.0) (λ b. Some (b, o.0.1)) (b, t) o.2 in
     let f = number_first w temp args s o.0.0 o.0.1 o.1 in
@@ -146,8 +145,7 @@ kept_instructs w limits ps args h op g act sense label =
     let all = map written (operands (is (Simple.Variable TEMP) ∷ ps)) in
     let item : Parts = record { opcode = op; operands = all; store = None; branch = to sense label; text = [] } in
     let read = ap (and_first l.2.temp) l.4 ∙ ap (λ v. Some (v ∷ f.0, state stack l.0 o.0.1)) (l.3 ∙ l.1.same refl) in
-    let moves =
-    ap (λ a. acted w at a item rest l.2) act
+    let moves = ap (λ a. acted w at a item rest l.2) act
     ∙ ap (λ m. m then λ p. g p.1.store p.0 then λ b. branched (to sense label) b at rest p.1) read
     ∙ ap (λ ms. g o.0.1 ms then λ b. branched (to sense label) b at rest (state stack l.0 o.0.1)) f.2
     ∙ ap (λ m. m then λ b. branched (to sense label) b at rest (state stack l.0 o.0.1)) q.1
@@ -156,8 +154,7 @@ kept_instructs w limits ps args h op g act sense label =
     (if same q.0 sense then at label else rest, state stack l.0 o.0.1) (p.1.2 ∙ p.2) moves) in (
       l.0,
       l.1,
-      subst (λ x. Comes w at from (state stack temp s) (if same x.0 sense then at label else rest) (state stack l.0 x.1))
-          (same_some q.2) c,
+      subst (λ x. Comes w at from (state stack temp s) (if same x.0 sense then at label else rest) (state stack l.0 x.1)) (same_some q.2) c,
     ))
     (then_ (then_ (looks {keeps = true} w ps args h) nothing_) (instruction_ limits op (operands (is (Simple.Variable TEMP) ∷ ps)) None
     (to sense label)))

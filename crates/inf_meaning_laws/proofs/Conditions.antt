@@ -27,8 +27,7 @@ comma_means {keeps} {keeps'} w limits m n a b h k =
 
 pub not_means : {keeps : Bool} (w : World) (limits : Limits) (m : Meaning) (a : Sense) → Means keeps w limits m a →
     Means keeps w limits (code.one limits Unary.Not m) (values.one w Unary.Not a)
-not_means {keeps} w limits m a h =
-    condition_means w limits (opposite a.truth) (λ sense label. m.branch (not sense) label)
+not_means {keeps} w limits m a h = condition_means w limits (opposite a.truth) (λ sense label. m.branch (not sense) label)
     (λ sense label. so (opposed w a.truth sense label) (h.branch (not sense) label))
 
 -- `&&` (`x` true) and `||` (`x` false) in one: the right side counts where the left one is `x`
@@ -62,8 +61,7 @@ pub decided : {keeps : Bool} (w : World) (at : Label → Place) (from to : Place
 decided {keeps} w at from to label start stack left y p s r t c e = (
   left,
   kept_here keeps left,
-  subst (λ x. Comes w at from start (if same x.0 y then at label else to) (state stack left x.1))
-      (same_some e) c,
+  subst (λ x. Comes w at from start (if same x.0 y then at label else to) (state stack left x.1)) (same_some e) c,
 )
 
 -- the left side jumps behind both, or both go to the label
@@ -112,8 +110,7 @@ chain_opened false a b s r t e =
 pub both_ : {keeps : Bool} (w : World) (limits : Limits) (x : Bool) (m n : Meaning) (a b : Sense) → Means keeps w limits m a →
     Means keeps w limits n b → (label : Label) →
     Always w (code.both limits m n x label) (Branches keeps w (chain x a.truth b.truth) x label)
-both_ {keeps} w limits x m n a b h k label =
-    labelled λ over. so (λ at from to p stack temp s r t e.
+both_ {keeps} w limits x m n a b h k label = labelled λ over. so (λ at from to p stack temp s r t e.
     let o = chain_opened x a.truth b.truth s r t e in
     let q = p.1 stack temp s o.0 o.1 o.2 in
     let z = over_by {keeps = keeps} w at from p.0 p.2.0 to over label
@@ -124,8 +121,7 @@ both_ {keeps} w limits x m n a b h k label =
 pub either_ : {keeps : Bool} (w : World) (limits : Limits) (x : Bool) (m n : Meaning) (a b : Sense) → Means keeps w limits m a →
     Means keeps w limits n b → (label : Label) →
     Always w (code.either m n (not x) label) (Branches keeps w (chain x a.truth b.truth) (not x) label)
-either_ {keeps} w limits x m n a b h k label =
-    so (λ at from to p stack temp s r t e.
+either_ {keeps} w limits x m n a b h k label = so (λ at from to p stack temp s r t e.
     let o = chain_opened x a.truth b.truth s r t e in
     let q = p.1 stack temp s o.0 o.1 o.2 in
     let z = straight_by {keeps = keeps} w at from p.0 to label (state stack temp s) stack q.0 x o.0 b.truth o.1 r t q.2 p.2 o.3 in

@@ -106,8 +106,7 @@ one_means {keeps} w limits (Unary.Single Single.Random) a h k =
     stored_means {keeps = keeps} w limits (drawn_value w (arg (sense w a) ∷ [])) (λ d. worked limits Opcode.Random (part
     (meaning limits a) ∷ []) (Some d) None)
     (draws_ {keeps = keeps} w limits (part (meaning limits a) ∷ []) (arg (sense w a) ∷ []) (
-      part_of w limits (meaning limits a)
-          (sense w a) k,
+      part_of w limits (meaning limits a) (sense w a) k,
       tt,
     ))
 one_means {keeps} w limits (Unary.Before how) (Leaf x) h k = before_means {keeps = keeps} w limits how x

@@ -53,14 +53,12 @@ Over over P at from to = (at over ≡ to) × P at from to
 last_group : {keeps : Bool} (w : World) (limits : Limits) (c : Code) (holds : ℕ → Store → Option (Bool × Store)) (sense : Bool)
     (label over : Label) → Always w c (BranchesBy keeps w holds sense label) →
     Always w (c ▸ marked limits over) (Over over (BranchesBy keeps w holds sense label))
-last_group {keeps} w limits c holds sense label over h =
-    so (λ at from to p. (
-      p.2.1,
-      λ stack temp s b t e.
-          let q = p.1 stack temp s b t e in
-          (q.0, q.1, pass w at from p.0 to over label (state stack temp s) (state stack q.0 t) (same b sense) p.2 q.2),
-    ))
-    (then_ h (marked_ limits over))
+last_group {keeps} w limits c holds sense label over h = so (λ at from to p. (
+  p.2.1,
+  λ stack temp s b t e.
+      let q = p.1 stack temp s b t e in
+      (q.0, q.1, pass w at from p.0 to over label (state stack temp s) (state stack q.0 t) (same b sense) p.2 q.2),
+)) (then_ h (marked_ limits over))
 
 -- one group holds, and jumps to the label or over the others; or the others decide
 either_by : (w : World) (at : Label → Place) (from m to : Place) (label over : Label) (start now : State) (sense : Bool) → at over ≡ to →
@@ -73,14 +71,13 @@ two_groups : {keeps : Bool} (w : World) (limits : Limits) (c d : Code) (first ot
     Always w c (BranchesBy keeps w first true (if sense then label else over)) →
     Always w d (Over over (BranchesBy keeps w others sense label)) →
     Always w (c ▸ d) (Over over (BranchesBy keeps w (λ temp. either (first temp) (others temp)) sense label))
-two_groups {keeps} w limits c d first others sense label over stays h k =
-    so (λ at from to p. (
-      p.2.0,
-      λ stack temp s b t e.
-          let o = opened (first temp s) (λ p. if p.0 then Some (true, p.1) else others temp p.1) (b, t) e in
-          let q = p.1 stack temp s o.0.0 o.0.1 o.1 in
-          go at from p.0 to p.2.0 p.2.1 stack temp s o.0.0 o.0.1 q.0 q.1 q.2 b t o.2,
-    )) (then_ h k)
+two_groups {keeps} w limits c d first others sense label over stays h k = so (λ at from to p. (
+  p.2.0,
+  λ stack temp s b t e.
+      let o = opened (first temp s) (λ p. if p.0 then Some (true, p.1) else others temp p.1) (b, t) e in
+      let q = p.1 stack temp s o.0.0 o.0.1 o.1 in
+      go at from p.0 to p.2.0 p.2.1 stack temp s o.0.0 o.0.1 q.0 q.1 q.2 b t o.2,
+)) (then_ h k)
   where
     go : (at : Label → Place) (from m to : Place) → at over ≡ to → BranchesBy keeps w others sense label at m to → (stack : List ℕ)
         (temp : ℕ)
@@ -220,8 +217,7 @@ at_once {keeps} w limits t d m a h ps args k few sense label =
 
 passed : {keeps : Bool} (w : World) (limits : Limits) (c : Code) (holds : Store → Option (Bool × Store)) (how : Bool) (label over : Label) →
     Always w c (Branches keeps w holds how label) → Always w (c ▸ marked limits over) (Branches keeps w holds how label)
-passed {keeps} w limits c holds how label over h =
-    so (λ at from to p. λ stack temp s r u g.
+passed {keeps} w limits c holds how label over h = so (λ at from to p. λ stack temp s r u g.
     let q = p.1 stack temp s r u g in
     (q.0, q.1, pass w at from p.0 to over label (state stack temp s) (state stack q.0 u) (same r how) p.2 q.2))
     (then_ h (marked_ limits over))
@@ -232,8 +228,7 @@ kept_tests_ : {keeps : Bool} (w : World) (limits : Limits) (t : Test) → Covers
     (p : Part) (others : List Part) (args : List Arg) → AreParts true w (p ∷ others) args → (sense : Bool) (label over : Label) →
     Always w (code.kept_tests limits true t m (p ∷ others) sense label (if sense then label else over) ▸ marked limits over)
     (Branches false w (values.worked_first true w t a args) sense label)
-kept_tests_ {keeps} w limits t d m a h p others args k sense label over =
-    so (λ at from to q stack temp s b u e.
+kept_tests_ {keeps} w limits t d m a h p others args k sense label over = so (λ at from to q stack temp s b u e.
     let o = opened (a.value nobody s) (λ p. in_groups (compares_three t) w t (number p.0) args p.1) (b, u) e in
     let r = q.1 stack temp s o.0.0 o.0.1 o.1 in
     let z = q.2.1 stack o.0.0 o.0.1 b u o.2 in
@@ -270,8 +265,7 @@ compared_by : {keeps : Bool} (w : World) (limits : Limits) (t : Test) → Covers
     (sense : Bool) (label over : Label) →
     Always w (code.tests_by limits (leaf_simple leaf) t m (p ∷ others) sense label (if sense then label else over) ▸ marked limits over)
     (Branches keeps w (values.compared w t leaf a args) sense label)
-compared_by {keeps} w limits t d m a h p others args k (Some x) calm sense label over =
-    so (λ at from to q. q.1)
+compared_by {keeps} w limits t d m a h p others args k (Some x) calm sense label over = so (λ at from to q. q.1)
     (groups_ {keeps = keeps} w limits t d (simple x) (λ temp. record { leaf = Some x; value = a.value nobody })
     (leaf_stays keeps w limits x (a.value nobody)) p others args k sense label over)
 compared_by {keeps} w limits t d m a h p others args k None calm sense label over =
@@ -289,8 +283,7 @@ pub test_means : {keeps : Bool} (w : World) (limits : Limits) (t : Test) → Cov
     (how : Bool) (label : Label) →
     Always w (code.test_branch limits t m n how label) (Branches keeps w (values.compared w t a.leaf a (values.args b)) how label)
 unfolding code.test_branch
-test_means {keeps} w limits t d m n a b h k calm how label =
-    labelled λ over.
+test_means {keeps} w limits t d m n a b h k calm how label = labelled λ over.
     subst (λ o. Always w (code.tests_by limits o t m (n.first ∷ n.others) how label (if how then label else over) ▸ marked limits over)
     (Branches keeps w (values.compared w t a.leaf a (values.args b)) how label)) (sym h.operand)
     (compared_by {keeps = keeps} w limits t d m a h n.first n.others (values.args b) (k.first, k.others) a.leaf

@@ -44,8 +44,7 @@ left_as {w} {at} {from} {to} {s} {t} {t'} e c = subst (λ u. Comes w at from s t
 pub given_taken : (d n : ℕ) (stack : List ℕ) (temp : ℕ) (s : Store) → given d n (state stack temp s) ≡ taken d n stack temp (taker d n s)
 given_taken d n stack temp s = go (d == 0) (d == 255)
   where
-    go : (x y : Bool) →
-        (if x then state (n ∷ stack) temp s else if y then state stack n s else state stack temp (with_variable d n s))
+    go : (x y : Bool) → (if x then state (n ∷ stack) temp s else if y then state stack n s else state stack temp (with_variable d n s))
         ≡ (let t = (if x || y then nobody else with_variable d) n s in
         if x || y then (if x then state (n ∷ stack) temp t else if y then state stack n t else state stack temp (with_variable d n t))
         else state stack temp t)
@@ -60,8 +59,7 @@ pub finish : (keeps : Bool) (w : World) (at : Label → Place) (from to : Place)
 finish keeps w at from to start d n m stack temp left s t h c e = (
   left,
   h,
-  subst (λ x. Comes w at from start to (taken d x.0 stack left x.1)) (same_some e)
-      (left_as (given_taken d n stack left s) c),
+  subst (λ x. Comes w at from start to (taken d x.0 stack left x.1)) (same_some e) (left_as (given_taken d n stack left s) c),
 )
 
 -- Values are put into variables and read from them.
@@ -76,8 +74,7 @@ one_value w x s t n e = ap (λ m. m then λ p. and_first p.0 (operand_values w [
 
 put_by : (w : World) (limits : Limits) (x : Simple) (d : ℕ) (b : Bool) → (d == 0) ≡ b →
     Always w (if b then instruction limits Opcode.Push (x ∷ []) None None else naming limits Opcode.Store d (x ∷ []) None None) (Puts w x d)
-put_by w limits x d true e =
-    so (λ at from to place s n v.
+put_by w limits x d true e = so (λ at from to place s n v.
     stepping w at (instruction_of Opcode.Push (x ∷ []) None None) from to s (to, given d n s) place
     (ap (λ m. m then λ p. pushed p.0 to p.1) (one_value w x s s n v)
     ∙ ap (λ b. Some (
@@ -86,8 +83,7 @@ put_by w limits x d true e =
           { store = with_variable d n s.store },
     )) (sym e)))
     (instruction_ limits Opcode.Push (x ∷ []) None None)
-put_by w limits x d false e =
-    so (λ at from to place s n v.
+put_by w limits x d false e = so (λ at from to place s n v.
     stepping w at (naming_of Opcode.Store d (x ∷ []) None None) from to s (to, given d n s) place
     (ap (λ m. m then λ p. first_put d p.0 to p.1) (one_value w x s s n v)
     ∙ ap (λ b. Some (to, if b then record s { stack = with_top n s.stack } else given d n s)) e))
@@ -120,8 +116,7 @@ abbrev pub Loads : World → ℕ → ℕ → Claim
 Loads w v d at from to = (s : State) → is_own v ≡ false → Comes w at from s to (given d (s.store.variables v) s)
 
 pub load_ : (w : World) (limits : Limits) (v d : ℕ) → Always w (load limits v d) (Loads w v d)
-load_ w limits v d =
-    so (λ at from to place s own.
+load_ w limits v d = so (λ at from to place s own.
     stepping w at (naming_of Opcode.Load v [] (Some d) None) from to s (to, given d (s.store.variables v) s) place
     (ap (λ m. m then λ n. delivered (Some d) n to s) (named_is v s own))) (naming_ limits Opcode.Load v [] (Some d) None)
 
@@ -129,13 +124,11 @@ abbrev pub MakesStep : World → Direction → ℕ → Claim
 MakesStep w how v at from to = (s : State) → is_own v ≡ false → Comes w at from s to (record s { store = with_step how v s.store })
 
 pub step_ : (w : World) (limits : Limits) (how : Direction) (v : ℕ) → Always w (code.stepping limits how v) (MakesStep w how v)
-step_ w limits Direction.Up v =
-    so (λ at from to place s own.
+step_ w limits Direction.Up v = so (λ at from to place s own.
     stepping w at (naming_of Opcode.Inc v [] None None) from to s (to, record s { store = with_step Direction.Up v s.store }) place
     (ap (λ m. m then λ n. Some (to, put_in v ((n + 1) % 65536) s)) (named_is v s own)
     ∙ ap (λ t. Some (to, t)) (put_in_is v ((s.store.variables v + 1) % 65536) s own))) (naming_ limits Opcode.Inc v [] None None)
-step_ w limits Direction.Down v =
-    so (λ at from to place s own.
+step_ w limits Direction.Down v = so (λ at from to place s own.
     stepping w at (naming_of Opcode.Dec v [] None None) from to s (to, record s { store = with_step Direction.Down v s.store }) place
     (ap (λ m. m then λ n. Some (to, put_in v ((n + 65535) % 65536) s)) (named_is v s own)
     ∙ ap (λ t. Some (to, t)) (put_in_is v ((s.store.variables v + 65535) % 65536) s own))) (naming_ limits Opcode.Dec v [] None None)
@@ -161,8 +154,7 @@ JumpsZero w x sense label at from to =
 
 pub jump_zero_ : (w : World) (limits : Limits) (x : Simple) (sense : Bool) (label : Label) →
     Always w (jump_zero limits x sense label) (JumpsZero w x sense label)
-jump_zero_ w limits x sense label =
-    so (λ at from rest place s n t v.
+jump_zero_ w limits x sense label = so (λ at from rest place s n t v.
     stepping w at (instruction_of Opcode.Jz (x ∷ []) None (to (not sense) label)) from rest s
     (if same (not (n == 0)) sense then at label else rest, t) place
     (ap (λ m. m then λ p. machine.test_of_one (λ a. a == 0) p.0 then λ b. branched (to (not sense) label) b at rest p.1)
@@ -199,14 +191,12 @@ pub computes_ : {keeps : Bool} (w : World) (limits : Limits) (op : Opcode) (f : 
     (args : List Arg) →
     action_of w op ≡ Computes f → AreParts keeps w parts args → (d : ℕ) →
     Always w (worked limits op parts (Some d) None) (GivesValue keeps w (computed_of w f args) d)
-computes_ {keeps} w limits op f parts args act h d =
-    so (λ at from rest p stack temp s n t e.
+computes_ {keeps} w limits op f parts args act h d = so (λ at from rest p stack temp s n t e.
     let o = opened (values w args s) (λ p. f p.1 p.0 then λ n. answer (taker d) n p.1) (n, t) e in
     let q = opened (f o.0.1 o.0.0) (λ n. answer (taker d) n o.0.1) (n, t) o.2 in
     let l = p.1 stack temp s o.0.0 o.0.1 o.1 in
     let item : Parts = record { opcode = op; operands = map written (operands parts); store = Some d; branch = None; text = [] } in
-    let moves =
-    ap (λ a. acted w at a item rest l.2) act
+    let moves = ap (λ a. acted w at a item rest l.2) act
     ∙ ap (λ m. m then λ p. f p.1.store p.0 then λ n. delivered (Some d) n rest p.1) l.4
     ∙ ap (λ m. m then λ n. delivered (Some d) n rest (state stack l.0 o.0.1)) q.1 in
     finish keeps w at from rest (state stack temp s) d q.0 n stack temp l.0 o.0.1 t l.1
@@ -223,14 +213,12 @@ pub tests_ : {keeps : Bool} (w : World) (limits : Limits) (op : Opcode) (g : Sto
     action_of w op ≡ Tests g → AreParts keeps w parts args → (sense : Bool) (label : Label) →
     Always w (evaluated parts ▸ instruction limits op (operands parts) None (to sense label)) (Branches keeps w
     (tested_of w g args) sense label)
-tests_ {keeps} w limits op g parts args act h sense label =
-    so (λ at from rest p stack temp s b t e.
+tests_ {keeps} w limits op g parts args act h sense label = so (λ at from rest p stack temp s b t e.
     let o = opened (values w args s) (λ p. g p.1 p.0 then λ b. Some (b, p.1)) (b, t) e in
     let q = opened (g o.0.1 o.0.0) (λ b. Some (b, o.0.1)) (b, t) o.2 in
     let l = p.1 stack temp s o.0.0 o.0.1 o.1 in
     let item : Parts = record { opcode = op; operands = map written (operands parts); store = None; branch = to sense label; text = [] } in
-    let moves =
-    ap (λ a. acted w at a item rest l.2) act
+    let moves = ap (λ a. acted w at a item rest l.2) act
     ∙ ap (λ m. m then λ p. g p.1.store p.0 then λ b. branched (to sense label) b at rest p.1) l.4
     ∙ ap (λ m. m then λ b. branched (to sense label) b at rest (state stack l.0 o.0.1)) q.1
     ∙ goes (same q.0 sense) label at rest (state stack l.0 o.0.1) in
@@ -238,8 +226,7 @@ tests_ {keeps} w limits op g parts args act h sense label =
     (if same q.0 sense then at label else rest, state stack l.0 o.0.1) p.2 moves) in (
       l.0,
       l.1,
-      subst (λ x. Comes w at from (state stack temp s) (if same x.0 sense then at label else rest) (state stack l.0 x.1))
-          (same_some q.2) c,
+      subst (λ x. Comes w at from (state stack temp s) (if same x.0 sense then at label else rest) (state stack l.0 x.1)) (same_some q.2) c,
     ))
     (then_ (looks {keeps = keeps} w parts args h) (instruction_ limits op (operands parts) None (to sense label)))
 
@@ -255,8 +242,7 @@ pub zero_tested : {keeps : Bool} (w : World) (limits : Limits) (value : Taker �
     Always w c (GivesValue keeps w value SP) →
     (sense : Bool) (label : Label) →
     Always w (c ▸ jump_zero limits (Simple.Variable SP) sense label) (Branches keeps w (λ s. is_not_zero (value nobody s)) sense label)
-zero_tested {keeps} w limits value c h sense label =
-    so (λ at from rest p stack temp s b t e.
+zero_tested {keeps} w limits value c h sense label = so (λ at from rest p stack temp s b t e.
     let o = opened (value nobody s) (λ p. Some (not (p.0 == 0), p.1)) (b, t) e in
     let r = p.1 stack temp s o.0.0 o.0.1 o.1 in (
       r.0,
@@ -283,8 +269,7 @@ truth_value holds take s = holds s then λ p. answer take (truth p.0) p.1
 pub truth_ : {keeps : Bool} (w : World) (limits : Limits) (holds : Store → Option (Bool × Store)) (branch : Bool → Label → Code) →
     ((sense : Bool) (label : Label) → Always w (branch sense label) (Branches keeps w holds sense label)) → (d : ℕ) →
     Always w (code.truth limits branch d) (GivesValue keeps w (truth_value holds) d)
-truth_ {keeps} w limits holds branch h d =
-    labelled λ fails. labelled λ last. so (λ at from rest p stack temp s n t e.
+truth_ {keeps} w limits holds branch h d = labelled λ fails. labelled λ last. so (λ at from rest p stack temp s n t e.
     let o = opened (holds s) (λ p. answer (taker d) (truth p.0) p.1) (n, t) e in
     let r = p.1 stack temp s o.0.0 o.0.1 o.1 in
     let p1 = p.2 in
@@ -305,15 +290,13 @@ found_of w f args take s = values w args s then λ p. machine.found_one (f p.1) 
 pub finds_ : {keeps : Bool} (w : World) (limits : Limits) (op : Opcode) (f : Store → ℕ → ℕ) (parts : List Part) (args : List Arg) →
     action_of w op ≡ machine.Finds f → AreParts keeps w parts args → (d : ℕ) (next : Label) →
     Always w (worked limits op parts (Some d) (to true next) ▸ marked limits next) (GivesValue keeps w (found_of w f args) d)
-finds_ {keeps} w limits op f parts args act h d next =
-    so (λ at from rest p stack temp s n t e.
+finds_ {keeps} w limits op f parts args act h d next = so (λ at from rest p stack temp s n t e.
     let o = opened (values w args s) (λ p. machine.found_one (f p.1) p.0 then λ n. answer (taker d) n p.1) (n, t) e in
     let q = opened (machine.found_one (f o.0.1) o.0.0) (λ n. answer (taker d) n o.0.1) (n, t) o.2 in
     let l = p.1.1 stack temp s o.0.0 o.0.1 o.1 in
     let now = given d q.0 (state stack l.0 o.0.1) in
     let item : Parts = record { opcode = op; operands = map written (operands parts); store = Some d; branch = to true next; text = [] } in
-    let moves =
-    ap (λ a. acted w at a item p.0 l.2) act
+    let moves = ap (λ a. acted w at a item p.0 l.2) act
     ∙ ap (λ m. m then λ p'. machine.found_one (f p'.1.store) p'.0 then λ n. machine.branched_with (Some d) (to true next) n at p.0 p'.1) l.4
     ∙ ap (λ m. m then λ n. machine.branched_with (Some d) (to true next) n at p.0 (state stack l.0 o.0.1)) q.1
     ∙ goes (same (not (q.0 == 0)) true) next at p.0 now in
@@ -330,8 +313,7 @@ drawn_value w args take s = values w args s then λ p. machine.drawn w p.0 p.1 t
 
 pub draws_ : {keeps : Bool} (w : World) (limits : Limits) (parts : List Part) (args : List Arg) → AreParts keeps w parts args → (d : ℕ) →
     Always w (worked limits Opcode.Random parts (Some d) None) (GivesValue keeps w (drawn_value w args) d)
-draws_ {keeps} w limits parts args h d =
-    so (λ at from rest p stack temp s n t e.
+draws_ {keeps} w limits parts args h d = so (λ at from rest p stack temp s n t e.
     let o = opened (values w args s) (λ p. machine.drawn w p.0 p.1 then λ r. answer (taker d) r.0 r.1) (n, t) e in
     let q = opened (machine.drawn w o.0.0 o.0.1) (λ r. answer (taker d) r.0 r.1) (n, t) o.2 in
     let l = p.1 stack temp s o.0.0 o.0.1 o.1 in
@@ -342,8 +324,7 @@ draws_ {keeps} w limits parts args h d =
       branch = None;
       text = [];
     } in
-    let moves =
-    ap (λ m. m then λ p. machine.drawn w p.0 p.1.store then λ r. delivered (Some d) r.0 rest (record p.1 { store = r.1 })) l.4
+    let moves = ap (λ m. m then λ p. machine.drawn w p.0 p.1.store then λ r. delivered (Some d) r.0 rest (record p.1 { store = r.1 })) l.4
     ∙ ap (λ m. m then λ r. delivered (Some d) r.0 rest (state stack l.0 r.1)) q.1 in
     finish keeps w at from rest (state stack temp s) d q.0.0 n stack temp l.0 q.0.1 t l.1
     (comes_then l.5 (stepping w at (Item.Instruction item) p.0 rest l.2 (rest, given d q.0.0 (state stack l.0 q.0.1)) p.2 moves)) q.2)
@@ -356,13 +337,11 @@ pub writes_ : (keeps : Bool) (w : World) (limits : Limits) (op : Opcode) (f : Li
     action_of w op ≡ Writes f → AreParts keeps w parts args →
     Always w (evaluated parts ▸ instruction limits op (operands parts) None None)
     (GivesNothing w (λ s. values w args s then λ p. f p.0 p.1))
-writes_ keeps w limits op f parts args act h =
-    so (λ at from rest p stack temp s t e.
+writes_ keeps w limits op f parts args act h = so (λ at from rest p stack temp s t e.
     let o = opened (values w args s) (λ p. f p.0 p.1) t e in
     let l = p.1 stack temp s o.0.0 o.0.1 o.1 in
     let item : Parts = record { opcode = op; operands = map written (operands parts); store = None; branch = None; text = [] } in
-    let moves =
-    ap (λ a. acted w at a item rest l.2) act
+    let moves = ap (λ a. acted w at a item rest l.2) act
     ∙ ap (λ m. m then λ p. f p.0 p.1.store then λ t. Some (rest, record p.1 { store = t })) l.4
     ∙ ap (λ m. m then λ t. Some (rest, state stack l.0 t)) o.2 in
     (l.0, comes_then l.5 (stepping w at (Item.Instruction item) p.0 rest l.2 (rest, state stack l.0 t) p.2 moves)))
@@ -394,14 +373,12 @@ call_value w args take s = values w args s then λ p. called w p.0 p.1 then λ r
 pub calls_ : (keeps : Bool) (w : World) (limits : Limits) (op : Opcode) (parts : List Part) (args : List Arg) → action_of w op ≡ Calls →
     AreParts keeps w parts args →
     (d : ℕ) → Always w (evaluated parts ▸ instruction limits op (operands parts) (Some d) None) (GivesValue false w (call_value w args) d)
-calls_ keeps w limits op parts args act h d =
-    so (λ at from rest p stack temp s n t e.
+calls_ keeps w limits op parts args act h d = so (λ at from rest p stack temp s n t e.
     let o = opened (values w args s) (λ p. called w p.0 p.1 then λ r. answer (taker d) r.0 r.2) (n, t) e in
     let q = opened (called w o.0.0 o.0.1) (λ r. answer (taker d) r.0 r.2) (n, t) o.2 in
     let l = p.1 stack temp s o.0.0 o.0.1 o.1 in
     let item : Parts = record { opcode = op; operands = map written (operands parts); store = Some d; branch = None; text = [] } in
-    let moves =
-    ap (λ a. acted w at a item rest l.2) act
+    let moves = ap (λ a. acted w at a item rest l.2) act
     ∙ ap (λ m. m then λ p. called w p.0 p.1.store then λ r. machine.returned (Some d) r.0 rest (record p.1 { temp = r.1; store = r.2 })) l.4
     ∙ ap (λ m. m then λ r. machine.returned (Some d) r.0 rest (state stack r.1 r.2)) q.1 in
     finish false w at from rest (state stack temp s) d q.0.0 n stack temp q.0.1 q.0.2 t not_kept
@@ -411,15 +388,13 @@ calls_ keeps w limits op parts args act h d =
 pub calls_alone : (keeps : Bool) (w : World) (limits : Limits) (op : Opcode) (parts : List Part) (args : List Arg) →
     action_of w op ≡ Calls → AreParts keeps w parts args →
     Always w (evaluated parts ▸ instruction limits op (operands parts) None None) (GivesNothing w (forgotten (call_value w args)))
-calls_alone keeps w limits op parts args act h =
-    so (λ at from rest p stack temp s t e.
+calls_alone keeps w limits op parts args act h = so (λ at from rest p stack temp s t e.
     let f = opened (call_value w args nobody s) (λ p. Some p.1) t e in
     let o = opened (values w args s) (λ p. called w p.0 p.1 then λ r. answer nobody r.0 r.2) f.0 f.1 in
     let q = opened (called w o.0.0 o.0.1) (λ r. answer nobody r.0 r.2) f.0 o.2 in
     let l = p.1 stack temp s o.0.0 o.0.1 o.1 in
     let item : Parts = record { opcode = op; operands = map written (operands parts); store = None; branch = None; text = [] } in
-    let moves =
-    ap (λ a. acted w at a item rest l.2) act
+    let moves = ap (λ a. acted w at a item rest l.2) act
     ∙ ap (λ m. m then λ p. called w p.0 p.1.store then λ r. machine.returned None r.0 rest (record p.1 { temp = r.1; store = r.2 })) l.4
     ∙ ap (λ m. m then λ r. machine.returned None r.0 rest (state stack r.1 r.2)) q.1 in (
       q.0.1,

@@ -62,8 +62,7 @@ truth_of_sense false false = refl
 
 pub tested_leaf : {keeps : Bool} (w : World) (limits : Limits) (x : Operand) (sense : Bool) (label : Label) →
     Always w (jump_zero limits (simple x) sense label) (Branches keeps w (λ s. is_not_zero (leaf_value w x nobody s)) sense label)
-tested_leaf {keeps} w limits x sense label =
-    so (λ at from to h stack temp s b t e.
+tested_leaf {keeps} w limits x sense label = so (λ at from to h stack temp s b t e.
     let o = opened (leaf_value w x nobody s) (λ p. Some (not (p.0 == 0), p.1)) (b, t) e in
     let q = opened (read w x s) (λ n. answer nobody n s) o.0 o.1 in
     let c = h (state stack temp s) q.0 (state stack temp s) (looked_up w x (state stack temp s) q.0 q.1) in (
@@ -78,8 +77,7 @@ pub known_leaf : {keeps : Bool} (w : World) (limits : Limits) (x : Operand) (n :
     (sense : Bool) (label : Label) →
     Always w (code.leaf_branch limits (Simple.Known n) sense label)
     (Branches keeps w (λ s. is_not_zero (leaf_value w x nobody s)) sense label)
-known_leaf {keeps} w limits x n is_n sense label =
-    so (λ at from to h stack temp s b t e.
+known_leaf {keeps} w limits x n is_n sense label = so (λ at from to h stack temp s b t e.
     let o = opened (leaf_value w x nobody s) (λ p. Some (not (p.0 == 0), p.1)) (b, t) e in
     let q = opened (read w x s) (λ n. answer nobody n s) o.0 o.1 in
     let c = moved (ap (λ b. if b then at label else to) (truth_of_sense sense (not (n == 0)))) (h (state stack temp s)) in
@@ -105,16 +103,14 @@ leaf_branches {keeps} w limits Operand.Unknown sense label =
 
 pub leaf_put : {keeps : Bool} (w : World) (limits : Limits) (x : Operand) (d : ℕ) →
     Always w (put limits (simple x) d) (GivesValue keeps w (leaf_value w x) d)
-leaf_put {keeps} w limits x d =
-    so (λ at from to h stack temp s n t e.
+leaf_put {keeps} w limits x d = so (λ at from to h stack temp s n t e.
     let q = opened (read w x s) (λ n. answer (taker d) n s) (n, t) e in
     finish keeps w at from to (state stack temp s) d q.0 n stack temp temp s t (kept_here keeps temp)
     (h (state stack temp s) q.0 (looked_up w x (state stack temp s) q.0 q.1)) q.2)
     (put_ w limits (simple x) d)
 
 pub leaf_alone : (w : World) (x : Operand) → Always w nothing (GivesNothing w (forgotten (leaf_value w x)))
-leaf_alone w x =
-    so (λ at from to place stack temp s t e.
+leaf_alone w x = so (λ at from to place stack temp s t e.
     let o = opened (leaf_value w x nobody s) (λ p. Some p.1) t e in
     let q = opened (read w x s) (λ n. answer nobody n s) o.0 o.1 in (
       temp,

@@ -39,8 +39,7 @@ CallsSupplied w v all store at from to =
 called_by : (w : World) (limits : Limits) (v : Veneer) (x : Simple) (all : List Simple) → length all ≤ 7 → (store : Option ℕ) →
     Always w (calling limits x all store) (λ at from to. Supplied w v x → CallsSupplied w v all store at from to)
 unfolding calling
-called_by w limits v x all few store =
-    subst (λ l. Always w (instruction limits (call_opcode store (length l)) (x ∷ l) store None)
+called_by w limits v x all few store = subst (λ l. Always w (instruction limits (call_opcode store (length l)) (x ∷ l) store None)
     (λ at from to. Supplied w v x → CallsSupplied w v all store at from to)) (sym (taken_whole all 7 few))
     (so (λ at from to place is s ns u e n t c.
     let r = is.contracts.comes v ns u.store n t c in
@@ -52,8 +51,7 @@ called_by w limits v x all few store =
       text = [];
     } in
     let now = record u { temp = r.0; store = t } in
-    let moves =
-    ap (λ a. acted w at a item to s) (call_acts w store (length all))
+    let moves = ap (λ a. acted w at a item to s) (call_acts w store (length all))
     ∙ ap (λ m. m then λ p. called w p.0 p.1.store then λ r. machine.returned store r.0 to (record p.1 { temp = r.1; store = r.2 }))
     (ap (λ m. m then λ p. and_first p.0 (operand_values w (map written all) p.1)) (is.number s) ∙ ap (and_first (w.routine v)) e)
     ∙ ap (λ m. m then λ r. machine.returned store r.0 to (record u { temp = r.1; store = r.2 })) r.1
@@ -72,8 +70,7 @@ few_operands ps few = subst (λ n. n ≤ 7) (sym (operands_length ps)) few
 pub supplies_value : (keeps : Bool) (w : World) (limits : Limits) (v : Veneer) (ps : List Part) (args : List Arg) →
     AreParts keeps w ps args → length ps ≤ 7 → (d : ℕ) →
     Always w (call_routine limits v ps (Some d)) (GivesValue false w (supplied_value w v args) d)
-supplies_value keeps w limits v ps args h few d =
-    so (λ at from rest p stack temp s n t e.
+supplies_value keeps w limits v ps args h few d = so (λ at from rest p stack temp s n t e.
     let o = opened (values w args s) (λ p. supplied w v p.0 p.1 then λ r. answer (taker d) r.0 r.1) (n, t) e in
     let q = opened (supplied w v o.0.0 o.0.1) (λ r. answer (taker d) r.0 r.1) (n, t) o.2 in
     let l = p.1 stack temp s o.0.0 o.0.1 o.1 in
@@ -84,8 +81,7 @@ supplies_value keeps w limits v ps args h few d =
 pub supplies_alone : (keeps : Bool) (w : World) (limits : Limits) (v : Veneer) (ps : List Part) (args : List Arg) →
     AreParts keeps w ps args → length ps ≤ 7 →
     Always w (call_routine limits v ps None) (GivesNothing w (forgotten (supplied_value w v args)))
-supplies_alone keeps w limits v ps args h few =
-    so (λ at from rest p stack temp s t e.
+supplies_alone keeps w limits v ps args h few = so (λ at from rest p stack temp s t e.
     let f = opened (supplied_value w v args nobody s) (λ p. Some p.1) t e in
     let o = opened (values w args s) (λ p. supplied w v p.0 p.1 then λ r. answer nobody r.0 r.1) f.0 f.1 in
     let q = opened (supplied w v o.0.0 o.0.1) (λ r. answer nobody r.0 r.1) f.0 o.2 in
@@ -112,8 +108,7 @@ wrote_as f other s t e = none_some e
 
 pub writes_property : (keeps : Bool) (w : World) (limits : Limits) (ps : List Part) (args : List Arg) → AreParts keeps w ps args →
     length ps ≤ 7 → Always w (call_routine limits Veneer.WriteProperty ps None) (GivesNothing w (meant.element_assigned w Properties args))
-writes_property keeps w limits ps args h few =
-    so (λ at from rest p stack temp s t e.
+writes_property keeps w limits ps args h few = so (λ at from rest p stack temp s t e.
     let o = opened (values w args s) (λ p. meant.with_element w Properties p.0 p.1) t e in
     let a = wrote_as w.with_property o.0.0 o.0.1 t o.2 in
     let l = p.1 stack temp s o.0.0 o.0.1 o.1 in

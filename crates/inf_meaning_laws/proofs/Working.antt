@@ -55,11 +55,9 @@ stays w at from to s t e f = subst (λ p. Comes w at from s p t) e (subst (λ u.
 
 works_by : {keeps : Bool} (w : World) (leaf : Option Operand) (value : Store → Option (ℕ × Store)) (c : Code) →
     (leaf ≡ None → Always w c (Pushes keeps w value)) → Always w (evaluated_by (leaf_simple leaf) c) (Works keeps w leaf value)
-works_by {keeps} w (Some x) value c h =
-    so (λ at from to e stack temp s a t f. let g = same_some f in
+works_by {keeps} w (Some x) value c h = so (λ at from to e stack temp s a t f. let g = same_some f in
     (temp, kept_here keeps temp, stays w at from to _ _ e (λ i. state (with_worked ((g i).0) stack) temp (g i).1))) nothing_
-works_by {keeps} w None value c h =
-    so (λ at from to p stack temp s a t f.
+works_by {keeps} w None value c h = so (λ at from to p stack temp s a t f.
     let o = opened (value s) (λ p. Some (Is p.0, p.1)) (a, t) f in
     let g = same_some o.2 in
     let r = p stack temp s o.0.0 o.0.1 o.1 in
@@ -71,13 +69,11 @@ works {keeps} w p a h = subst (λ o. Always w (evaluated_by o (p.value SP)) (Wor
 
 pub works_all : {keeps : Bool} (w : World) (parts : List Part) (args : List Arg) → AreParts keeps w parts args →
     Always w (evaluated parts) (WorksAll keeps w args)
-works_all {keeps} w [] [] h =
-    so (λ at from to e stack temp s all t f. let g = same_some f in
+works_all {keeps} w [] [] h = so (λ at from to e stack temp s all t f. let g = same_some f in
     (temp, kept_here keeps temp, stays w at from to _ _ e (λ i. state (with_all_worked (g i).0 stack) temp (g i).1))) nothing_
 works_all w [] (a ∷ args) h = absurd h
 works_all w (p ∷ parts) [] h = absurd h
-works_all {keeps} w (p ∷ parts) (a ∷ args) h =
-    so (λ at from to e stack temp s all t f.
+works_all {keeps} w (p ∷ parts) (a ∷ args) h = so (λ at from to e stack temp s all t f.
     let o = opened (worked_all args s) (λ p. worked_by a.leaf a.value p.1 then λ q. Some (q.0 ∷ p.0, q.1)) (all, t) f in
     let q = opened (worked_by a.leaf a.value o.0.1) (λ q. Some (q.0 ∷ o.0.0, q.1)) (all, t) o.2 in
     let g = same_some q.2 in
@@ -119,12 +115,6 @@ operands_are keeps w (p ∷ parts) (a ∷ args) h s all t f =
 known : (w : World) (s : State) (n : ℕ) (b : Bool) → operand_value w (if b then Small n else Large n) s ≡ Some (n, s)
 known w s n true = refl
 known w s n false = refl
-
-of_variable : {A : Type 0} (x y : Bool) (a b c d : Option A) (n : A) → (if x || y then None else c) ≡ Some n →
-    (if x then a else if y then b else d) ≡ d
-of_variable true y a b c d n e = none_some e
-of_variable false true a b c d n e = none_some e
-of_variable false false a b c d n e = refl
 
 read_number : {A : Type 0} (x : Bool) (c : A) (n : A) → (if x then None else Some c) ≡ Some n → c ≡ n
 read_number true c n e = none_some e
@@ -176,8 +166,7 @@ Looks keeps w args all at from to =
 
 pub looks : {keeps : Bool} (w : World) (parts : List Part) (args : List Arg) → AreParts keeps w parts args →
     Always w (evaluated parts) (Looks keeps w args (operands parts))
-looks {keeps} w parts args h =
-    so (λ at from to f stack temp s ns t e.
+looks {keeps} w parts args h = so (λ at from to f stack temp s ns t e.
     let o = opened (worked_all args s) (λ p. settled_all w p.0 p.1 then λ ns. Some (ns, p.1)) (ns, t) e in
     let q = opened (settled_all w o.0.0 o.0.1) (λ ns. Some (ns, o.0.1)) (ns, t) o.2 in
     let r = f stack temp s o.0.0 o.0.1 o.1 in

@@ -62,9 +62,7 @@ then_adds f g first second = record {
 
 -- the step of a compilation that changes the report alone
 pub told_grows : (tell : Reported → Reported) → Adds tell → Grows (λ w. record w { report = tell w.report })
-told_grows tell only = record {
-  grows = λ lines w. ap (λ (r : Reported). record w { report = r }) (only.adds lines w.report);
-}
+told_grows tell only = record { grows = λ lines w. ap (λ (r : Reported). record w { report = r }) (only.adds lines w.report) }
 
 -- Steps whose messages grow put together
 
@@ -141,8 +139,7 @@ with_more more counted r = record { lines = r.lines ++ more r.counts; counts = c
 
 more_adds : (more : Counts → List ℕ) (counted : Counts → Counts) → IsCounted counted → Adds (with_more more counted)
 more_adds more counted h = record {
-  adds = λ lines r. ap (λ (all : List ℕ). record r { lines = all; counts = counted r.counts })
-      (append_assoc lines r.lines (more r.counts));
+  adds = λ lines r. ap (λ (all : List ℕ). record r { lines = all; counts = counted r.counts }) (append_assoc lines r.lines (more r.counts));
   goes_on = λ r. record { more = more r.counts; lines = refl; over = h.over r.counts; errors = h.errors r.counts };
 }
 
@@ -198,14 +195,12 @@ all_unused_add context place (l ∷ locals) =
 branch_adds : (context : Context) (place : Place) (fault : Option CloseFault) → Adds (with_branch_fault context place fault)
 branch_adds context place (Some (CloseFault.LabelTwice label)) =
     error_adds (location context.names place) (location context.names place) BranchTooFar
-branch_adds context place (Some CloseFault.TooFar) =
-    error_adds (location context.names place) (location context.names place) BranchTooFar
+branch_adds context place (Some CloseFault.TooFar) = error_adds (location context.names place) (location context.names place) BranchTooFar
 branch_adds context place _ = nothing_adds
 
 missing_adds : (label : Option (List ℕ)) (context : Context) (place : Place) (fault : Option CloseFault)
     → Adds (with_fault_or label context place fault)
-missing_adds (Some name) context place fault =
-    error_adds (location context.names place) (location context.names place) (LabelMissing name)
+missing_adds (Some name) context place fault = error_adds (location context.names place) (location context.names place) (LabelMissing name)
 missing_adds None context place fault = branch_adds context place fault
 
 pub routine_adds : (context : Context) (place : Place) (labels : List NamedLabel) (fault : Option CloseFault)

@@ -138,9 +138,7 @@ cut_at_grows limits context place = grows_of limits context {Q = free} (cut_at l
 -- All happenings
 
 between_grows : (m : Between) → OnlyAdds m → Grows (passed m)
-between_grows m adds = record {
-  grows = λ lines w. ap (λ r. record (passed m w) { report = r }) (adds lines w.output w.report);
-}
+between_grows m adds = record { grows = λ lines w. ap (λ r. record (passed m w) { report = r }) (adds lines w.output w.report) }
 
 comes_grows : Grows next_comes
 comes_grows = record { grows = λ lines w. refl }

@@ -21,8 +21,7 @@ piece : (n : ℕ) (xs : List ℕ) → drop n xs ≡ take 8 (drop n xs) ++ drop (
 piece n xs = sym (take-append-drop 8 (drop n xs)) ∙ ap (λ rest. take 8 (drop n xs) ++ rest) (drop-drop 8 n xs)
 
 one : (n : ℕ) (a b : List ℕ) → take 8 (drop n a) ≡ take 8 (drop n b) → drop (n + 8) a ≡ drop (n + 8) b → drop n a ≡ drop n b
-one n a b front rest =
-    piece n a ∙ ap (λ xs. xs ++ drop (n + 8) a) front ∙ ap (λ xs. take 8 (drop n b) ++ xs) rest ∙ sym (piece n b)
+one n a b front rest = piece n a ∙ ap (λ xs. xs ++ drop (n + 8) a) front ∙ ap (λ xs. take 8 (drop n b) ++ xs) rest ∙ sym (piece n b)
 
 pub all_same : (a b : List ℕ) → length a ≡ 40 → length b ≡ 40 → take 8 (drop 0 a) ≡ take 8 (drop 0 b) →
     take 8 (drop 8 a) ≡ take 8 (drop 8 b) → take 8 (drop 16 a) ≡ take 8 (drop 16 b) → take 8 (drop 24 a) ≡ take 8 (drop 24 b) → take 8
@@ -47,10 +46,7 @@ same_words a b p q r s t la lb wp wq wr ws wt = (
     wp.1 (ap (λ xs. take 8 (drop 0 xs)) e),
     (
       wq.1 (ap (λ xs. take 8 (drop 8 xs)) e),
-      (
-        wr.1 (ap (λ xs. take 8 (drop 16 xs)) e),
-        (ws.1 (ap (λ xs. take 8 (drop 24 xs)) e), wt.1 (ap (λ xs. take 8 (drop 32 xs)) e)),
-      ),
+      (wr.1 (ap (λ xs. take 8 (drop 16 xs)) e), (ws.1 (ap (λ xs. take 8 (drop 24 xs)) e), wt.1 (ap (λ xs. take 8 (drop 32 xs)) e))),
     ),
   )),
 )

@@ -20,8 +20,7 @@ spelled-behind key (k ∷ ks) = ap (λ names. k.items ∷ names) (spelled-behind
 
 pub spelled-insert : (key : SetKey) (ks : List SetKey) → spelled (insert_key (λ a b. bytes_eq a.items b.items) ks key) ≡
     cond (list_any (bytes_eq key.items) (spelled ks)) (spelled ks) (spelled ks ++ key.items ∷ [])
-spelled-insert key ks =
-    go (list_any (λ k. bytes_eq key.items k.items) ks)
+spelled-insert key ks = go (list_any (λ k. bytes_eq key.items k.items) ks)
     ∙ ap (λ t. cond t (spelled ks) (spelled ks ++ key.items ∷ [])) (any-spelled key.items ks)
   where
     go : (t : Bool) → spelled (cond t ks (ks ++ key ∷ [])) ≡ cond t (spelled ks) (spelled ks ++ key.items ∷ [])

@@ -174,12 +174,6 @@ module _ {P : Type 0} (name : List ℕ) (place : P) (t : Table P) where
   new_number (Some meaning) s free absent = cc
   new_number None (Some s) free absent = cc
 
-pub known_fault : {P : Type 0} (system : Option Meaning) (s : Option (Standing P)) (full : Bool) → is_some s ≡ true →
-    refer_fault_by (found_as system s) full ≡ None
-known_fault system None full is = cc
-known_fault system (Some (IsUsed spelling first)) full is = refl
-known_fault system (Some (IsDeclared number meaning first)) full is = refl
-
 -- a name that the language lacks, and that was neither declared nor used, is unknown
 pub unknown_where : {P : Type 0} (system : Option Meaning) (s : Option (Standing P)) → is_some system ≡ false → is_some s ≡ false →
     found_as system s ≡ Found.Unknown
@@ -266,8 +260,7 @@ number_of_place {P} key es r is same = go r is same
 
     go : (r : Option ℕ) → r ≡ position (has key) (keys_of es) → is_some r ≡ is_some (lookup (has key) es) → r ≡ number_among key names
     go None is same = sym (ap (λ t. cond t (Some (index_of key names)) None) (known ∙ sym same))
-    go (Some n) is same =
-        ap Some (found_place n _ _ is ∙ sym (index_of-place key es))
+    go (Some n) is same = ap Some (found_place n _ _ is ∙ sym (index_of-place key es))
         ∙ sym (ap (λ t. cond t (Some (index_of key names)) None) (known ∙ sym same))
 
 -- there are at most as many names as there may be, where a new one comes only if there is room

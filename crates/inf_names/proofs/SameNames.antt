@@ -27,23 +27,19 @@ pub same_letter : (s w : List ℕ) → str_eq_ignore_ascii_case s w ≡ true →
 same_letter s w e = same_last s w ((bytes_eq-Decides (map to_ascii_lowercase s) (map to_ascii_lowercase w)).0 e)
 
 pub same_length : (s w : List ℕ) → str_eq_ignore_ascii_case s w ≡ true → length s ≡ length w
-same_length s w e =
-    sym (length-map s to_ascii_lowercase)
+same_length s w e = sym (length-map s to_ascii_lowercase)
     ∙ ap length ((bytes_eq-Decides (map to_ascii_lowercase s) (map to_ascii_lowercase w)).0 e)
     ∙ length-map w to_ascii_lowercase
 
 -- The bytes from a place on are the same if those at that place are, and those behind it.
-pub same_from : (s w : List ℕ) (i : ℕ) → length s ≡ length w → i < length s →
-    str_eq_ignore_ascii_case (drop i s) (drop i w)
+pub same_from : (s w : List ℕ) (i : ℕ) → length s ≡ length w → i < length s → str_eq_ignore_ascii_case (drop i s) (drop i w)
     ≡ (eq_ignore_ascii_case (get_or s i 0) (get_or w i 0) && str_eq_ignore_ascii_case (drop (suc i) s) (drop (suc i) w))
-same_from s w i size within =
-    ap (λ x. str_eq_ignore_ascii_case x (drop i w)) (drop-cons s i 0 within)
+same_from s w i size within = ap (λ x. str_eq_ignore_ascii_case x (drop i w)) (drop-cons s i 0 within)
     ∙ ap (λ x. str_eq_ignore_ascii_case (get_or s i 0 ∷ drop (suc i) s) x) (drop-cons w i 0 (omega (arith, size, within)))
 
 -- Behind the last byte nothing differs.
 pub same_at_end : (s w : List ℕ) (i : ℕ) → length s ≡ length w → length s ≤ i → str_eq_ignore_ascii_case (drop i s) (drop i w) ≡ true
-same_at_end s w i size behind =
-    ap (λ x. str_eq_ignore_ascii_case x (drop i w)) (drop_all i s behind)
+same_at_end s w i size behind = ap (λ x. str_eq_ignore_ascii_case x (drop i w)) (drop_all i s behind)
     ∙ ap (λ x. str_eq_ignore_ascii_case [] x) (drop_all i w (omega (arith, size, behind)))
 
 pub ruleset same_steps = (same_from, same_at_end)

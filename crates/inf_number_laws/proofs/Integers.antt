@@ -14,9 +14,7 @@ signed_is : (a : ℕ) → a < 65536 → cast_signed w16 a ≡ signed a
 signed_is a h = grind (arith, ints)
 
 pub multiplied : (a b : ℕ) → a < 65536 → b < 65536 → (a * b) % 65536 ≡ word (signed a *ℤ signed b)
-multiplied a b ha hb =
-    sym (of_z-to_z w16 ((a * b) % 65536) (omega arith))
-    ∙ ap (cast_unsigned w16) (wrapping_mul-bits w16 a b ha hb)
+multiplied a b ha hb = sym (of_z-to_z w16 ((a * b) % 65536) (omega arith)) ∙ ap (cast_unsigned w16) (wrapping_mul-bits w16 a b ha hb)
     ∙ ap (λ x. cast_unsigned w16 (int_wrap w16 (x *ℤ cast_signed w16 b))) (signed_is a ha)
     ∙ ap (λ x. cast_unsigned w16 (int_wrap w16 (signed a *ℤ x))) (signed_is b hb)
     ∙ sym (word_is (signed a *ℤ signed b))

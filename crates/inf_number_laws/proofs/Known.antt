@@ -41,8 +41,7 @@ left_over_is : (a b : ℕ) → (b == 0) ≡ false → left_over a b ≡ Some (re
 left_over_is a b e = chosen (b == 0) (nat_lt a 32768) 0 (magnitude a % magnitude b) (negated (magnitude a % magnitude b)) e
 
 -- a meaning that a known result decides
-by_result : (f : Option ℕ) (a : Sense) (n : ℕ) → f ≡ Some n
-    → ((take : Taker) (s : Store) → a.value take s ≡ (f then λ m. answer take m s))
+by_result : (f : Option ℕ) (a : Sense) (n : ℕ) → f ≡ Some n → ((take : Taker) (s : Store) → a.value take s ≡ (f then λ m. answer take m s))
     → ((s : Store) → a.alone s ≡ (f then λ m. Some s))
     → ((s : Store) → a.truth s ≡ (f then λ m. Some (not (m == 0), s))) → IsNumber n a
 by_result f a n e v al t = record {
@@ -102,8 +101,7 @@ by_truth b a n e v al t = record {
 -- a condition whose truth is known in each store
 by_condition : (b : Bool) (h : Store → Option (Bool × Store)) (n : ℕ) → Some (truth b) ≡ Some n
     → ((s : Store) → h s ≡ Some (b, s)) → IsNumber n (condition h)
-by_condition b h n e t =
-    by_truth b (condition h) n e (λ take s. ap (λ o. o then λ p. answer take (truth p.0) p.1) (t s))
+by_condition b h n e t = by_truth b (condition h) n e (λ take s. ap (λ o. o then λ p. answer take (truth p.0) p.1) (t s))
     (λ s. ap (λ o. (o then λ p. answer nobody (truth p.0) p.1) then λ p. Some p.1) (t s)) t
 
 twice : (b : Bool) → not (not b) ≡ b
@@ -237,8 +235,7 @@ threes w x m other s = refl
 
 grouped : (w : World) (t : Test) (x m : ℕ) (ms : List ℕ) (r : Bool) (s : Store) → any_of t x false (m ∷ ms) ≡ Some r
     → in_groups (compares_three t) w t (number x) (numbers (m ∷ ms)) s ≡ Some (r, s)
-grouped w Test.Equal x m ms r s e =
-    threes w x m ms s ∙ ap (λ b. Some (b, s)) (some_same (sym (equal_is x false (m ∷ ms)) ∙ e))
+grouped w Test.Equal x m ms r s e = threes w x m ms s ∙ ap (λ b. Some (b, s)) (some_same (sym (equal_is x false (m ∷ ms)) ∙ e))
 grouped w Test.Less x m ms r s e = let o = runs w Test.Less x m ms false r s e in o.1 ∙ ap (λ b. Some (b, s)) o.2
 grouped w Test.Greater x m ms r s e = let o = runs w Test.Greater x m ms false r s e in o.1 ∙ ap (λ b. Some (b, s)) o.2
 grouped w Test.AtMost x m ms r s e = let o = runs w Test.AtMost x m ms false r s e in o.1 ∙ ap (λ b. Some (b, s)) o.2
@@ -298,8 +295,7 @@ are_two f left behind a b n ra rb (Some x) (Some y) ja kb e =
 operates : (w : World) (o : Operation) (a b : Tree) (n : ℕ) → HasDivisor (Binary.Operation o) b
     → AreTwo (folded_two (Binary.Operation o)) a b n
     → IsNumber n (two w (Binary.Operation o) (sense w a) (sense w b))
-operates w o a b n d t =
-    subst (λ a. IsNumber n (two w (Binary.Operation o) (sense w a) (sense w b))) (sym t.first)
+operates w o a b n d t = subst (λ a. IsNumber n (two w (Binary.Operation o) (sense w a) (sense w b))) (sym t.first)
     (subst (λ b. IsNumber n (two w (Binary.Operation o) (leaf_of w t.x) (sense w b))) (sym t.second)
     (operation_is w o t.x t.y n (subst (λ b. HasDivisor (Binary.Operation o) b) t.second d) t.gives))
 

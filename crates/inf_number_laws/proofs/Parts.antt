@@ -107,8 +107,7 @@ module _ (w : World) where
       → (o r : Option (Worked × Store)) → OneLike o r → AllLike (put ps o) (put qs r)
   put_like ps qs e None None l = tt
   put_like ps qs e (Some p) (Some q) l = (
-    λ s.
-        ap (λ o. o then λ n. settled_all w ps s then λ ns. Some (n ∷ ns)) (l.0 s)
+    λ s. ap (λ o. o then λ n. settled_all w ps s then λ ns. Some (n ∷ ns)) (l.0 s)
         ∙ ap (λ o. settled w q.0 s then λ n. o then λ ns. Some (n ∷ ns)) (e s),
     l.1,
   )
@@ -120,8 +119,7 @@ module _ (w : World) where
 
   next_like : (a b : Arg) → ArgLike a b → (o r : Option (List Worked × Store)) → AllLike o r → AllLike (next a o) (next b r)
   next_like a b l None None m = tt
-  next_like a b l (Some p) (Some q) m =
-      put_like p.0 q.0 m.0 (worked_by a.leaf a.value p.1) (worked_by b.leaf b.value q.1)
+  next_like a b l (Some p) (Some q) m = put_like p.0 q.0 m.0 (worked_by a.leaf a.value p.1) (worked_by b.leaf b.value q.1)
       (subst (λ t. OneLike (worked_by a.leaf a.value p.1) (worked_by b.leaf b.value t)) m.1
       (one_worked a.leaf b.leaf a.value b.value l.leaves l.values p.1))
   next_like a b l None (Some q) m = elim m [ ]
@@ -129,8 +127,7 @@ module _ (w : World) where
 
   all_worked : (ps : List Pair) (s : Store) → AllLike (worked_all (lefts ps) s) (worked_all (rights ps) s)
   all_worked [] s = (λ t. refl, refl)
-  all_worked (p ∷ ps) s =
-      next_like p.left p.right p.like (worked_all (lefts ps) s) (worked_all (rights ps) s) (all_worked ps s)
+  all_worked (p ∷ ps) s = next_like p.left p.right p.like (worked_all (lefts ps) s) (worked_all (rights ps) s) (all_worked ps s)
 
   abbrev at_last : Option (List Worked × Store) → Option (List ℕ × Store)
   at_last o = o then λ p. settled_all w p.0 p.1 then λ ns. Some (ns, p.1)
@@ -164,16 +161,13 @@ module _ (w : World) where
   threes_like a (b ∷ []) s = tested_like Test.Equal (a ∷ b ∷ []) s
   threes_like a (b ∷ c ∷ []) s = tested_like Test.Equal (a ∷ b ∷ c ∷ []) s
   threes_like a (b ∷ c ∷ d ∷ []) s = tested_like Test.Equal (a ∷ b ∷ c ∷ d ∷ []) s
-  threes_like a (b ∷ c ∷ d ∷ e ∷ ps) s =
-      either_like _ _ (by_threes w a.left (lefts (e ∷ ps))) (by_threes w a.right (rights (e ∷ ps)))
+  threes_like a (b ∷ c ∷ d ∷ e ∷ ps) s = either_like _ _ (by_threes w a.left (lefts (e ∷ ps))) (by_threes w a.right (rights (e ∷ ps)))
       (tested_like Test.Equal (a ∷ b ∷ c ∷ d ∷ [])) (threes_like a (e ∷ ps)) s
 
-  ones_like : (t : Test) (a : Pair) (ps : List Pair) (s : Store)
-      → one_by_one w t a.left (lefts ps) s ≡ one_by_one w t a.right (rights ps) s
+  ones_like : (t : Test) (a : Pair) (ps : List Pair) (s : Store) → one_by_one w t a.left (lefts ps) s ≡ one_by_one w t a.right (rights ps) s
   ones_like t a [] s = refl
   ones_like t a (b ∷ []) s = tested_like t (a ∷ b ∷ []) s
-  ones_like t a (b ∷ c ∷ ps) s =
-      either_like _ _ (one_by_one w t a.left (lefts (c ∷ ps))) (one_by_one w t a.right (rights (c ∷ ps)))
+  ones_like t a (b ∷ c ∷ ps) s = either_like _ _ (one_by_one w t a.left (lefts (c ∷ ps))) (one_by_one w t a.right (rights (c ∷ ps)))
       (tested_like t (a ∷ b ∷ [])) (ones_like t a (c ∷ ps)) s
 
   pub groups_like : (q : Bool) (t : Test) (a : Pair) (ps : List Pair) (s : Store)

@@ -74,8 +74,7 @@ made_like f g h k e t = record {
   truth = t;
 }
 
-valued_like : (f g : Taker → Store → Option (ℕ × Store)) → ((take : Taker) (s : Store) → f take s ≡ g take s)
-    → Like (valued f) (valued g)
+valued_like : (f g : Taker → Store → Option (ℕ × Store)) → ((take : Taker) (s : Store) → f take s ≡ g take s) → Like (valued f) (valued g)
 valued_like f g e = made_like f g (λ s. is_not_zero (f nobody s)) (λ s. is_not_zero (g nobody s)) e (λ s. ap is_not_zero (e nobody s))
 
 condition_like : (h k : Store → Option (Bool × Store)) → ((s : Store) → h s ≡ k s) → Like (condition h) (condition k)
@@ -133,8 +132,7 @@ module _ (w : World) where
 
   assigned_like : (x y : Aim) (a b : Sense) → AimsLike x y → Like a b → Like (assigned w x a) (assigned w y b)
   assigned_like Nowhere Nowhere a b m l = like_same no_value
-  assigned_like (Named v) (Named u) a b m l =
-      subst (λ u. Like (assigned w (Named v) a) (assigned w (Named u) b)) m
+  assigned_like (Named v) (Named u) a b m l = subst (λ u. Like (assigned w (Named v) a) (assigned w (Named u) b)) m
       (valued_like _ _ (λ take s. ap (λ o. o then λ p. answer take (p.1.variables v) p.1) (l.value (with_variable v) s)))
   assigned_like (Element x xs) (Element y ys) a b m l =
       let parts = args_both xs ys (arg a ∷ []) (arg b ∷ []) m.1 (one_part a b l) in
@@ -185,17 +183,13 @@ module _ (w : World) where
 
   element_called : (x : Width) (xs ys : List Arg) (a b : Sense) (cs ds : List Arg) → ArgsLike xs ys → Like a b → ArgsLike cs ds
       → Like (called_as w (Element x xs) a cs) (called_as w (Element x ys) b ds)
-  element_called Bytes xs ys a b cs ds m l n =
-      calls_like (arg a ∷ cs) (arg b ∷ ds) (args_with (arg a) (arg b) cs ds (arg_like a b l) n)
-  element_called Words xs ys a b cs ds m l n =
-      calls_like (arg a ∷ cs) (arg b ∷ ds) (args_with (arg a) (arg b) cs ds (arg_like a b l) n)
-  element_called Properties xs ys a b cs ds m l n =
-      supplied_like Veneer.CallProperty (xs ++ cs) (ys ++ ds) (args_both xs ys cs ds m n)
+  element_called Bytes xs ys a b cs ds m l n = calls_like (arg a ∷ cs) (arg b ∷ ds) (args_with (arg a) (arg b) cs ds (arg_like a b l) n)
+  element_called Words xs ys a b cs ds m l n = calls_like (arg a ∷ cs) (arg b ∷ ds) (args_with (arg a) (arg b) cs ds (arg_like a b l) n)
+  element_called Properties xs ys a b cs ds m l n = supplied_like Veneer.CallProperty (xs ++ cs) (ys ++ ds) (args_both xs ys cs ds m n)
 
   called_like : (x y : Aim) (a b : Sense) (cs ds : List Arg) → AimsLike x y → Like a b → ArgsLike cs ds
       → Like (called_as w x a cs) (called_as w y b ds)
-  called_like Nowhere Nowhere a b cs ds m l n =
-      calls_like (arg a ∷ cs) (arg b ∷ ds) (args_with (arg a) (arg b) cs ds (arg_like a b l) n)
+  called_like Nowhere Nowhere a b cs ds m l n = calls_like (arg a ∷ cs) (arg b ∷ ds) (args_with (arg a) (arg b) cs ds (arg_like a b l) n)
   called_like (Named v) (Named u) a b cs ds m l n =
       calls_like (arg a ∷ cs) (arg b ∷ ds) (args_with (arg a) (arg b) cs ds (arg_like a b l) n)
   called_like (Element x xs) (Element y ys) a b cs ds m l n =
@@ -248,11 +242,9 @@ module _ (w : World) where
   number_first : (q : Bool) (t : Test) (a : Sense) (b : Arg) (n : ℕ) (p : Pair) (ps : List Pair) → ArgLike (arg a) b → ArgLike (number n) b
       → ((s : Store) → a.value nobody s ≡ Some (n, s)) → nat_lt (together t) (length (rights (p ∷ ps))) ≡ q → (s : Store)
       → worked_first q w t a (lefts (p ∷ ps)) s ≡ in_groups (compares_three t) w t b (rights (p ∷ ps)) s
-  number_first true t a b n p ps l m h e s =
-      ap (λ o. o then λ r. in_groups (compares_three t) w t (number r.0) (lefts (p ∷ ps)) r.1) (h s)
+  number_first true t a b n p ps l m h e s = ap (λ o. o then λ r. in_groups (compares_three t) w t (number r.0) (lefts (p ∷ ps)) r.1) (h s)
       ∙ groups_like w (compares_three t) t (pair (number n) b m) (p ∷ ps) s
-  number_first false t a b n p ps l m h e s =
-      tested_like w t (pair (arg a) b l ∷ p ∷ ps) s ∙ few t b p.right (rights ps) s e
+  number_first false t a b n p ps l m h e s = tested_like w t (pair (arg a) b l ∷ p ∷ ps) s ∙ few t b p.right (rights ps) s e
 
   compared_by : (t : Test) (a b : Sense) (p : Pair) (ps : List Pair) → Like a b → (j k : Option Operand) → LeavesLike j (a.value nobody) k
       → a.leaf ≡ j → b.leaf ≡ k → (s : Store) → compared w t j a (lefts (p ∷ ps)) s ≡ compared w t k b (rights (p ∷ ps)) s
@@ -295,18 +287,15 @@ module _ (w : World) where
   part_aim PropertyPart.Length xs ys l = tt
 
   in_order_like : (a b c d : Sense) → Like a b → Like c d → Like (in_order a c) (in_order b d)
-  in_order_like a b c d l m =
-      valued_like _ _
+  in_order_like a b c d l m = valued_like _ _
       (λ take s. steps (a.alone s) (b.alone s) (λ t. c.value take t) (λ t. d.value take t) (l.alone s) (λ t. m.value take t))
 
   both_like : (a b c d : Sense) → Like a b → Like c d → (s : Store) → both a.truth c.truth s ≡ both b.truth d.truth s
-  both_like a b c d l m s =
-      steps (a.truth s) (b.truth s) (λ p. if p.0 then c.truth p.1 else Some (false, p.1))
+  both_like a b c d l m s = steps (a.truth s) (b.truth s) (λ p. if p.0 then c.truth p.1 else Some (false, p.1))
       (λ p. if p.0 then d.truth p.1 else Some (false, p.1)) (l.truth s) (λ p. ap (λ o. if p.0 then o else Some (false, p.1)) (m.truth p.1))
 
   some_like : (a b c d : Sense) → Like a b → Like c d → (s : Store) → either a.truth c.truth s ≡ either b.truth d.truth s
-  some_like a b c d l m s =
-      steps (a.truth s) (b.truth s) (λ p. if p.0 then Some (true, p.1) else c.truth p.1)
+  some_like a b c d l m s = steps (a.truth s) (b.truth s) (λ p. if p.0 then Some (true, p.1) else c.truth p.1)
       (λ p. if p.0 then Some (true, p.1) else d.truth p.1) (l.truth s) (λ p. ap (λ o. if p.0 then Some (true, p.1) else o) (m.truth p.1))
 
   list_like : (a b c d : Sense) → Like a b → Like c d → Like (two w Binary.Then a c) (two w Binary.Then b d)
@@ -322,15 +311,12 @@ module _ (w : World) where
       }
 
   pub one_like : (op : Unary) (a b : Sense) → Like a b → Like (one w op a) (one w op b)
-  one_like Unary.Negate a b l =
-      computed_like (operation_of Operation.Subtract) (number 0 ∷ arg a ∷ []) (number 0 ∷ arg b ∷ [])
+  one_like Unary.Negate a b l = computed_like (operation_of Operation.Subtract) (number 0 ∷ arg a ∷ []) (number 0 ∷ arg b ∷ [])
       (args_with (number 0) (number 0) (arg a ∷ []) (arg b ∷ []) (arg_same (number 0)) (one_part a b l))
   one_like Unary.Not a b l = condition_like (opposite a.truth) (opposite b.truth) (opposite_like a.truth b.truth l.truth)
   one_like (Unary.Single Single.Random) a b l = drawn_like (arg a ∷ []) (arg b ∷ []) (one_part a b l)
-  one_like (Unary.Single Single.Complement) a b l =
-      computed_like (single_of w Single.Complement) (arg a ∷ []) (arg b ∷ []) (one_part a b l)
-  one_like (Unary.Single Single.Parent) a b l =
-      computed_like (single_of w Single.Parent) (arg a ∷ []) (arg b ∷ []) (one_part a b l)
+  one_like (Unary.Single Single.Complement) a b l = computed_like (single_of w Single.Complement) (arg a ∷ []) (arg b ∷ []) (one_part a b l)
+  one_like (Unary.Single Single.Parent) a b l = computed_like (single_of w Single.Parent) (arg a ∷ []) (arg b ∷ []) (one_part a b l)
   one_like (Unary.Relative how) a b l = computed_like (relative_of w how) (arg a ∷ []) (arg b ∷ []) (one_part a b l)
   one_like (Unary.Before how) a b l = before_like how a.aim b.aim l.aims
   one_like (Unary.Behind how) a b l = behind_like how a.aim b.aim l.aims

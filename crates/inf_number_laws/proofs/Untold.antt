@@ -222,8 +222,7 @@ module _ (unit : ℕ) (operands : List Operand) where
   tells : (a : source.Source) → Tells (λ found. found_in unit operands a found)
   tells (source.Leaf first token leaf) found e = leaf_tells (operand_at operands leaf) token found e
   tells (source.Brackets order a) found e = tells a found e
-  tells (source.Prefix order op a) found e =
-      tells a found (unary_fine op (meant operands a) (found_in unit operands a found) e).nothing
+  tells (source.Prefix order op a) found e = tells a found (unary_fine op (meant operands a) (found_in unit operands a found) e).nothing
   tells (source.Suffix op a) found e = tells a found (unary_fine op (meant operands a) (found_in unit operands a found) e).nothing
   tells (source.Two op a b) found e =
       let f = two_fine op unit (meant operands a) (meant operands b) (found_in unit operands b (found_in unit operands a found)) e in
@@ -233,21 +232,17 @@ module _ (unit : ℕ) (operands : List Operand) where
       two_fine Binary.Then unit (meant operands a) (meant operands b) (found_in unit operands b (found_in unit operands a found)) e in
       tells a found (tells b (found_in unit operands a found) f.nothing)
   tells (source.Call f list) found e =
-      let g =
-      call_by (too_many f list) (too_many_arguments unit) (meant operands list)
+      let g = call_by (too_many f list) (too_many_arguments unit) (meant operands list)
       (found_in unit operands list (found_in unit operands f found)) e in
       tells f found (tells list (found_in unit operands f found) g.nothing)
-  tells (source.Alone f) found e =
-      tells f found (unary_fine Unary.Call (meant operands f) (found_in unit operands f found) e).nothing
+  tells (source.Alone f) found e = tells f found (unary_fine Unary.Call (meant operands f) (found_in unit operands f found) e).nothing
 
   abbrev IsGood : source.Source → Type 0
   IsGood a = IsSound (written operands a) × IsFit (tree_of a)
 
   -- soundness of an operator, by the trees that the text of its parts comes to
-  one_sound : (op : Unary) (a : source.Source) → IsSound (written operands a) → IsProper (tree_of a)
-      → IsSound (One op (written operands a))
-  one_sound op a s p =
-      (s, λ n e. subst IsProper (sym (numbers_written operands a)) p)
+  one_sound : (op : Unary) (a : source.Source) → IsSound (written operands a) → IsProper (tree_of a) → IsSound (One op (written operands a))
+  one_sound op a s p = (s, λ n e. subst IsProper (sym (numbers_written operands a)) p)
 
   two_sound : (op : Binary) (a b : source.Source) → IsSound (written operands a) → IsSound (written operands b)
       → ((n : ℕ) → folded op (tree_of a) (tree_of b) ≡ Some n → IsProper (tree_of a) × IsProper (tree_of b) × HasDivisor op (tree_of b))
@@ -255,8 +250,7 @@ module _ (unit : ℕ) (operands : List Operand) where
   two_sound op a b s t h = (
     s,
     t,
-    subst
-        (λ x. (n : ℕ) → folded op x (with_numbers (written operands b)) ≡ Some n
+    subst (λ x. (n : ℕ) → folded op x (with_numbers (written operands b)) ≡ Some n
         → IsProper x × IsProper (with_numbers (written operands b)) × HasDivisor op (with_numbers (written operands b)))
         (sym (numbers_written operands a))
         (subst (λ y. (n : ℕ) → folded op (tree_of a) y ≡ Some n → IsProper (tree_of a) × IsProper y × HasDivisor op y)
@@ -265,16 +259,14 @@ module _ (unit : ℕ) (operands : List Operand) where
 
   one_good : (op : Unary) (a : source.Source) → IsGood a → IsValue (tree_of a)
       → IsSound (One op (written operands a)) × IsFit (joined_single op (tree_of a))
-  one_good op a g v =
-      (one_sound op a g.0 (g.1 v), λ u. proper_number (folded_single op (known (tree_of a))) (One op (tree_of a)) tt)
+  one_good op a g v = (one_sound op a g.0 (g.1 v), λ u. proper_number (folded_single op (known (tree_of a))) (One op (tree_of a)) tt)
 
   two_good : (op : Binary) (a b : source.Source) → IsGood a → IsGood b → IsValue (tree_of a) → IsValue (tree_of b)
       → ((n : ℕ) → folded op (tree_of a) (tree_of b) ≡ Some n → HasDivisor op (tree_of b))
       → IsSound (Two op (written operands a) (written operands b)) × IsFit (joined op (tree_of a) (tree_of b))
   two_good op a b g h v u d = (
     two_sound op a b g.0 h.0 (λ n e. (g.1 v, h.1 u, d n e)),
-    λ t.
-        proper_number (folded op (tree_of a) (tree_of b)) (built op (function_of (tree_of a)) (tree_of a) (tree_of b))
+    λ t. proper_number (folded op (tree_of a) (tree_of b)) (built op (function_of (tree_of a)) (tree_of a) (tree_of b))
         (proper_built op (function_of (tree_of a)) (tree_of a) (tree_of b) (g.1 v) (h.1 u)),
   )
 
@@ -299,14 +291,12 @@ module _ (unit : ℕ) (operands : List Operand) where
   good (source.Two op a b) e = pair_good op a b e (good a) (good b)
   good (source.Then a b) e = pair_good Binary.Then a b e (good a) (good b)
   good (source.Call f list) e =
-      let g =
-      call_by (too_many f list) (too_many_arguments unit) (meant operands list)
+      let g = call_by (too_many f list) (too_many_arguments unit) (meant operands list)
       (found_in unit operands list (found_in unit operands f None)) e in
       let first : found_in unit operands f None ≡ None = tells list (found_in unit operands f None) g.nothing in
       let second : found_in unit operands list None ≡ None = ap (found_in unit operands list) (sym first) ∙ g.nothing in (
         two_sound Binary.Call f list (good f first).0 (good list second).0 (λ n e. cc),
-        λ u.
-            proper_number (folded Binary.Call (tree_of f) (tree_of list))
+        λ u. proper_number (folded Binary.Call (tree_of f) (tree_of list))
             (built Binary.Call (function_of (tree_of f)) (tree_of f) (tree_of list))
             (proper_call (function_of (tree_of f)) (tree_of f) (tree_of list)),
       )
@@ -317,6 +307,5 @@ pub untold_is_sound : UntoldIsSound
 untold_is_sound unit operands a e = (good unit operands a e).0
 
 pub sources_keep : SourcesKeep
-sources_keep w unit operands a e =
-    subst (λ t. AreAlike (sense w (plain (written operands a))) (sense w t)) (numbers_written operands a)
+sources_keep w unit operands a e = subst (λ t. AreAlike (sense w (plain (written operands a))) (sense w t)) (numbers_written operands a)
     (trees_keep w (written operands a) (untold_is_sound unit operands a e))

@@ -71,8 +71,7 @@ number_like w n a b l m i = record {
   leaves = number_leaf n a.leaf b.leaf (a.value nobody) l.leaves m.no_leaf (λ s. l.value nobody s ∙ i.value nobody s);
   aims = subst (λ x. AimsLike a.aim x) m.no_aim l.aims;
   first = record {
-    leaves =
-        number_leaf n a.first.leaf b.first.leaf a.first.value l.first.leaves m.alone_first
+    leaves = number_leaf n a.first.leaf b.first.leaf a.first.value l.first.leaves m.alone_first
         (λ s. l.first.values s ∙ m.value s ∙ i.value nobody s);
     values = λ s. l.first.values s ∙ m.value s ∙ i.value nobody s;
   };
@@ -158,11 +157,9 @@ numbers_written operands (source.Leaf first token leaf) = refl
 numbers_written operands (source.Brackets order a) = numbers_written operands a
 numbers_written operands (source.Prefix order op a) = ap (joined_single op) (numbers_written operands a)
 numbers_written operands (source.Suffix op a) = ap (joined_single op) (numbers_written operands a)
-numbers_written operands (source.Two op a b) =
-    ap (λ t. joined op t (with_numbers (written operands b))) (numbers_written operands a)
+numbers_written operands (source.Two op a b) = ap (λ t. joined op t (with_numbers (written operands b))) (numbers_written operands a)
     ∙ ap (joined op (meant operands a).tree) (numbers_written operands b)
-numbers_written operands (source.Then a b) =
-    ap (λ t. joined Binary.Then t (with_numbers (written operands b))) (numbers_written operands a)
+numbers_written operands (source.Then a b) = ap (λ t. joined Binary.Then t (with_numbers (written operands b))) (numbers_written operands a)
     ∙ ap (joined Binary.Then (meant operands a).tree) (numbers_written operands b)
 numbers_written operands (source.Call f list) =
     ap (λ t. joined Binary.Call t (with_numbers (written operands list))) (numbers_written operands f)

@@ -11,13 +11,11 @@ use Rattle.inf_objects.specs.Measures.{CountedBy, kind_part, measure_by, measure
 use Rattle.inf_objects.specs.Objects.{head_bytes, head_fixups, list_bytes, object_bytes, object_fixups}
 
 -- the parts of both kinds together are the size of a property
-kinds : (p : Property)
-    → ((kind_part false p).bytes + (kind_part true p).bytes ≡ (size_of Owner.Object p).bytes) ×
+kinds : (p : Property) → ((kind_part false p).bytes + (kind_part true p).bytes ≡ (size_of Owner.Object p).bytes) ×
     ((kind_part false p).later + (kind_part true p).later ≡ (size_of Owner.Object p).fixups)
 kinds p = go (is_individual p)
   where
-    go : (b : Bool)
-        → ((if b then (if false then part_of p else no_part) else (if false then no_part else part_of p)).bytes
+    go : (b : Bool) → ((if b then (if false then part_of p else no_part) else (if false then no_part else part_of p)).bytes
         + (if b then (if true then part_of p else no_part) else (if true then no_part else part_of p)).bytes ≡
         (size_of Owner.Object p).bytes)
         × ((if b then (if false then part_of p else no_part) else (if false then no_part else part_of p)).later
@@ -26,8 +24,7 @@ kinds p = go (is_individual p)
     go true = (omega arith, omega arith)
     go false = (omega arith, omega arith)
 
-pub all_parts : (ps : List Property)
-    → ((parts_of false ps).bytes + (parts_of true ps).bytes ≡ bytes_of Owner.Object ps) ×
+pub all_parts : (ps : List Property) → ((parts_of false ps).bytes + (parts_of true ps).bytes ≡ bytes_of Owner.Object ps) ×
     ((parts_of false ps).later + (parts_of true ps).later ≡ fixups_of Owner.Object ps)
 all_parts [] = (refl, refl)
 all_parts (p ∷ ps) =
@@ -53,14 +50,12 @@ all_parts (p ∷ ps) =
 
 -- a declared property needs nothing in an individual table; an individual one is counted as one
 abbrev OfKind : Property → Type 0
-OfKind p =
-    ((is_individual p ≡ false) × ((size_of Owner.Object p).individuals ≡ 0) × ((kind_part true p).bytes ≡ 0) ×
+OfKind p = ((is_individual p ≡ false) × ((size_of Owner.Object p).individuals ≡ 0) × ((kind_part true p).bytes ≡ 0) ×
     ((kind_part true p).later ≡ 0))
     ⊎ ((is_individual p ≡ true) × ((size_of Owner.Object p).individuals ≡ 1))
 
 abbrev one_of : Property → Bool → Size
-one_of p b =
-    if b then record { bytes = common_bytes (length p.values); fixups = later_count p.values; individuals = 0 }
+one_of p b = if b then record { bytes = common_bytes (length p.values); fixups = later_count p.values; individuals = 0 }
     else record { bytes = individual_bytes (length p.values); fixups = later_count p.values; individuals = 1 }
 
 of_kind : (p : Property) → OfKind p
@@ -102,8 +97,7 @@ none_of_kind (p ∷ ps) e =
         → ((parts_of true (p ∷ ps)).bytes ≡ 0) × ((parts_of true (p ∷ ps)).later ≡ 0)
     go isnt later (inl h) = (
       omega (arith, h.2, later.0, sum_by-cons (λ q. (kind_part true q).bytes) p ps),
-      omega
-          (arith, h.3, later.1, sum_by-cons (λ q. (kind_part true q).later) p ps),
+      omega (arith, h.3, later.1, sum_by-cons (λ q. (kind_part true q).later) p ps),
     )
     go isnt later (inr h) = let this : false ≡ true = sym isnt ∙ h.0 in cc
 
@@ -162,15 +156,13 @@ counted_object o b is e = go b is
     go true is =
         let ends = individuals_are ps ∙ is in (
           omega (arith, bytes, all.0, ends_bytes (total Owner.Object ps) true ends),
-          omega
-              (arith, fixups, all.1, ends_fixups (total Owner.Object ps) true ends),
+          omega (arith, fixups, all.1, ends_fixups (total Owner.Object ps) true ends),
         )
     go false is =
         let ends = individuals_are ps ∙ is in
         let none = none_of_kind ps is in (
           omega (arith, bytes, all.0, none.0, ends_bytes (total Owner.Object ps) false ends),
-          omega
-              (arith, fixups, all.1, none.1, ends_fixups (total Owner.Object ps) false ends),
+          omega (arith, fixups, all.1, none.1, ends_fixups (total Owner.Object ps) false ends),
         )
 
 counted_by : (w : Owner) (o : Object) → o.owner ≡ w → CountedBy w o (measure_by w o)
@@ -186,8 +178,7 @@ counted_by Owner.Class o e =
         arith,
         fixups,
         ends_fixups (total Owner.Class ps) false none,
-        nothing_sum (λ p. (size_of Owner.Class p).fixups) ps
-            (λ p. refl),
+        nothing_sum (λ p. (size_of Owner.Class p).fixups) ps (λ p. refl),
       ),
     )
 counted_by Owner.Nothing o e = tt

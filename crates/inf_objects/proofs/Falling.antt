@@ -50,8 +50,7 @@ sum_falling-cons f (suc k) p ps absent = go (p.number == k) refl (sum_falling-co
           later,
           sum_by-cons f p [],
           below_out k f p (omega (arith, same)),
-          below_in (suc k) f p
-              (omega (arith, same)),
+          below_in (suc k) f p (omega (arith, same)),
         )
     go false is later =
         let left = sum_by-append f (option_to_list (found k ps)) (falling k (p ∷ ps)) in

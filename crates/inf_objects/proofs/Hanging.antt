@@ -31,8 +31,7 @@ but_at number link f n = if n == number then link else f n
 
 pub same-each : (first count : ℕ) (f g : ℕ → Link) → ((n : ℕ) → first ≤ n → f n ≡ g n) → each_from first count f ≡ each_from first count g
 same-each first zero f g same = refl
-same-each first (suc count) f g same =
-    ap (λ link. link ∷ each_from (first + 1) count f) (same first (omega arith))
+same-each first (suc count) f g same = ap (λ link. link ∷ each_from (first + 1) count f) (same first (omega arith))
     ∙ ap (λ links. g first ∷ links) (same-each (first + 1) count f g (λ n h. same n (omega (arith, h))))
 
 but-here : (number : ℕ) (link : Link) (f : ℕ → Link) → but_at number link f number ≡ link
@@ -80,8 +79,7 @@ first-if false m ns = refl
 
 child-step : (n first p : ℕ) (ps : List ℕ) (b : Bool) → (p == n) ≡ b
     → first_of (children_from first n (p ∷ ps)) ≡ (if b then first else first_of (children_from (first + 1) n ps))
-child-step n first p ps b e =
-    first-if (p == n) first (children_from (first + 1) n ps)
+child-step n first p ps b e = first-if (p == n) first (children_from (first + 1) n ps)
     ∙ ap (λ (c : Bool). if c then first else first_of (children_from (first + 1) n ps)) e
 
 next-step : (p first : ℕ) (ps : List ℕ) → (p == 0) ≡ false → next_below p first ps ≡ first_of (children_from first p ps)
@@ -127,20 +125,16 @@ hung-is place p parents n e =
     own_sibling (inr isnt) = ap (λ (b : Bool). (if b then gone else f p).sibling) (ne_eqb p (place + 1) isnt) ∙ further p isnt
 
     own : hung place p f p ≡ link_from place (p ∷ parents) p
-    own =
-        but-here p up side
-        ∙ both (side p).sibling (sibling_from p (place + 1) (p ∷ parents)) (place + 1)
+    own = but-here p up side ∙ both (side p).sibling (sibling_from p (place + 1) (p ∷ parents)) (place + 1)
         (first_of (children_from (place + 1) p (p ∷ parents)))
         (own_sibling (cases_eq p (place + 1))) (sym (child-step p (place + 1) p parents true (eq-eqb p p refl)))
 
     beside : (n ≡ p → ⊥) → (n ≡ place + 1) ⊎ (n ≡ place + 1 → ⊥) → side n ≡ link_from place (p ∷ parents) n
-    beside other (inl at) =
-        ap (λ (b : Bool). if b then gone else f n) (eq-eqb n (place + 1) at)
+    beside other (inl at) = ap (λ (b : Bool). if b then gone else f n) (eq-eqb n (place + 1) at)
         ∙ both (f p).child (sibling_from n (place + 1) (p ∷ parents)) (f (place + 1)).child
         (first_of (children_from (place + 1) n (p ∷ parents)))
         (last n at) (ap (λ m. (f m).child) (sym at) ∙ above other)
-    beside other (inr isnt) =
-        but-there (place + 1) gone f n isnt
+    beside other (inr isnt) = but-there (place + 1) gone f n isnt
         ∙ both (f n).sibling (sibling_from n (place + 1) (p ∷ parents)) (f n).child (first_of (children_from (place + 1) n (p ∷ parents)))
         (further n isnt) (above other)
 
@@ -152,14 +146,12 @@ sibling-before n first (p ∷ ps) h =
 
 -- an object without a parent changes no link
 root-is : (place p : ℕ) (parents : List ℕ) (n : ℕ) → p ≡ 0 → 1 ≤ n → link_from (place + 1) parents n ≡ link_from place (p ∷ parents) n
-root-is place p parents n e h =
-    both (sibling_from n (place + 1 + 1) parents) (sibling_from n (place + 1) (p ∷ parents))
+root-is place p parents n e h = both (sibling_from n (place + 1 + 1) parents) (sibling_from n (place + 1) (p ∷ parents))
     (first_of (children_from (place + 1 + 1) n parents)) (first_of (children_from (place + 1) n (p ∷ parents)))
     (go (cases_eq n (place + 1))) (sym (child-step n (place + 1) p parents false (ne_eqb p n (λ same. omega (arith, e, h, same)))))
   where
     go : (n ≡ place + 1) ⊎ (n ≡ place + 1 → ⊥) → sibling_from n (place + 1 + 1) parents ≡ sibling_from n (place + 1) (p ∷ parents)
-    go (inl at) =
-        sibling-before n (place + 1 + 1) parents (omega (arith, at))
+    go (inl at) = sibling-before n (place + 1 + 1) parents (omega (arith, at))
         ∙ sym (ap (λ (b : Bool). if b then 0 else first_of (children_from (place + 1 + 1) p parents)) (eq-eqb p 0 e))
         ∙ sym (sibling-step n (place + 1) p parents true (eq-eqb n (place + 1) at))
     go (inr isnt) = sym (sibling-step n (place + 1) p parents false (ne_eqb n (place + 1) isnt))
@@ -210,15 +202,13 @@ linked-each place p count parents h k = go (p == 0) refl
 pub made-each : (place count : ℕ) (parents : List ℕ) → place + length parents ≡ count → AreWithin count parents
     → made place parents (each_from 1 count (λ n. no_link)) ≡ each_from 1 count (link_from place parents)
 made-each place count [] h k = same-each 1 count (λ n. no_link) (link_from place []) (λ n k. refl)
-made-each place count (p ∷ parents) h k =
-    ap (linked place p) (made-each (place + 1) count parents (omega (arith, h)) k.1)
+made-each place count (p ∷ parents) h k = ap (linked place p) (made-each (place + 1) count parents (omega (arith, h)) k.1)
     ∙ linked-each place p count parents (omega (arith, h)) k.0
 
 -- once all objects are hung the links are those of the tree
 pub made-links : (parents : List ℕ) → AreWithin (length parents) parents →
     made 0 parents (replicate (length parents) no_link) ≡ links_of parents
-made-links parents h =
-    ap (made 0 parents) (nothing-each 1 (length parents)) ∙ made-each 0 (length parents) parents (omega arith) h
+made-links parents h = ap (made 0 parents) (nothing-each 1 (length parents)) ∙ made-each 0 (length parents) parents (omega arith) h
 
 pub within-front : (most : ℕ) (before : List ℕ) (p : ℕ) → AreWithin most (before ++ p ∷ []) → AreWithin most before × (p ≤ most)
 within-front most [] p h = (tt, h.0)

@@ -1,33 +1,21 @@
 -- An interpreter reads back the properties that are written of an object.
-use Rattle.std.proofs.Common.{◌≡◌, ◌≤◌, ◌<◌, ◌+◌, ◌*◌, ◌/◌, ◌%◌, ◌∷◌, ◌++◌, ◌==◌, ◌&&◌, [], ℕ, zero, suc, List, Bool, true, false, Option}
-use Rattle.std.proofs.Common.{Some, None, inl, inr, length, length-append, map, take, drop, append_assoc, append-nil, refl, sym, ap, subst}
-use Rattle.std.proofs.Common.{◌∙◌, arith, is_some, nat_le, nat_lt, option_to_list, ◌⊎◌, if◌then◌else◌}
-use Rattle.std.proofs.lemmas.Bool.{and_from, and_parts, cases_lt, eqb-true, eqb-false, eq-eqb, ne_eqb, le-leb, lt-leb, lt-ltb, le-ltb}
-use Rattle.std.proofs.lemmas.Bool.{leb-true}
+use Rattle.std.proofs.Common.{◌≡◌, ◌≤◌, ◌<◌, ◌+◌, ◌*◌, ◌/◌, ◌%◌, ◌∷◌, ◌++◌, ◌==◌, [], ℕ, zero, suc, List, Bool, true, false, Option}
+use Rattle.std.proofs.Common.{Some, None, length, length-append, map, take, drop, append_assoc, refl, sym, ap, subst}
+use Rattle.std.proofs.Common.{◌∙◌, arith, nat_le, nat_lt, option_to_list, if◌then◌else◌}
+use Rattle.std.proofs.lemmas.Bool.{and_from, eqb-true, eqb-false, eq-eqb, ne_eqb, le-leb, lt-leb, lt-ltb, le-ltb}
 use Rattle.std.proofs.lemmas.List.Folds.{list_all-append}
 use Rattle.inf_area.specs.declared.{cells.Cell.Cell, targets.AreaName.AreaName, targets.Target.Target, targets.Value.Value}
-use Rattle.inf_area.specs.Cells.{value_cells, values_cells}
+use Rattle.inf_area.specs.Cells.{values_cells}
+use Rattle.inf_area.proofs.Joining.{drop_front, take_front}
 use Rattle.inf_properties.specs.{Properties.found, declared.sizes.Owner.Owner, declared.values.Property.Property}
 use Rattle.inf_properties.specs.Sizes.{are_short, is_short}
 use Rattle.inf_properties.proofs.Having.{found-append, found_one, or_found}
 use Rattle.inf_objects.specs.declared.objects.Object.{Object}
 use Rattle.inf_objects.specs.Reading.{AreFallingBelow, Row, filled, first_byte, long_count, number_in, row_of, rows_read, table_read, told}
 use Rattle.inf_objects.specs.Reading.{words_of}
-use Rattle.inf_objects.specs.Tables.{address_rows, all_falling, byte_cells, class_rows, class_values, falling, has_individual, name_cells}
-use Rattle.inf_objects.specs.Tables.{row_cells, rows_by, rows_cells, rows_of, shown, size_cells, table_cells}
+use Rattle.inf_objects.specs.Tables.{address_rows, byte_cells, class_rows, class_values, falling, has_individual, name_cells}
+use Rattle.inf_objects.specs.Tables.{row_cells, rows_by, rows_cells, shown, size_cells}
 use Rattle.inf_objects.proofs.Rows.{length-class_values}
-
-take_front : (n : ℕ) (xs ys : List ℕ) → length xs ≡ n → take n (xs ++ ys) ≡ xs
-take_front zero [] ys e = refl
-take_front (suc n) [] ys e = absurd (omega (arith, e))
-take_front zero (x ∷ xs) ys e = absurd (omega (arith, e))
-take_front (suc n) (x ∷ xs) ys e = ap (λ zs. x ∷ zs) (take_front n xs ys (omega (arith, e)))
-
-drop_front : (n : ℕ) (xs ys : List ℕ) → length xs ≡ n → drop n (xs ++ ys) ≡ ys
-drop_front zero [] ys e = refl
-drop_front (suc n) [] ys e = absurd (omega (arith, e))
-drop_front zero (x ∷ xs) ys e = absurd (omega (arith, e))
-drop_front (suc n) (x ∷ xs) ys e = drop_front n xs ys (omega (arith, e))
 
 filled-append : (f : Target → ℕ) (xs ys : List Cell) → filled f (xs ++ ys) ≡ filled f xs ++ filled f ys
 filled-append f [] ys = refl
@@ -75,8 +63,7 @@ told_of f n vs = record { number = n; words = map (number_in f) (shown vs) }
 
 row_data : (f : Target → ℕ) (n k m : ℕ) (vs : List Value) (rest : List ℕ) → k ≡ n → 2 * length (shown vs) ≡ m
     → row_of k m (filled f (values_cells (shown vs)) ++ rest) ≡ told_of f n vs
-row_data f n k m vs rest e h =
-    ap (λ j. record { number = j; words = words_of (take m (filled f (values_cells (shown vs)) ++ rest)) }) e
+row_data f n k m vs rest e h = ap (λ j. record { number = j; words = words_of (take m (filled f (values_cells (shown vs)) ++ rest)) }) e
     ∙ ap (λ bs. record { number = n; words = words_of bs })
     (take_front m (filled f (values_cells (shown vs))) rest (values_count f (shown vs) ∙ h))
     ∙ ap (λ ws. record { number = n; words = ws }) (values_words f (shown vs))
@@ -160,15 +147,13 @@ row_some f p = go (nat_le (length p.values) 1)
 
 rows_some : (f : Target → ℕ) (ps : List Property) → length ps ≤ length (filled f (rows_cells ps))
 rows_some f [] = omega arith
-rows_some f (p ∷ ps) =
-    omega (
-      arith,
-      ap length (filled-append f (row_cells p) (rows_cells ps)),
-      length-append (filled f (row_cells p))
-          (filled f (rows_cells ps)),
-      row_some f p,
-      rows_some f ps,
-    )
+rows_some f (p ∷ ps) = omega (
+  arith,
+  ap length (filled-append f (row_cells p) (rows_cells ps)),
+  length-append (filled f (row_cells p)) (filled f (rows_cells ps)),
+  row_some f p,
+  rows_some f ps,
+)
 
 filled-bytes : (f : Target → ℕ) (bs : List ℕ) → filled f (byte_cells bs) ≡ bs
 filled-bytes f [] = refl
@@ -192,8 +177,7 @@ table_is_read f name words ps rest e few h =
 
     flatten : filled f (name_cells name ++ rows_cells ps ++ Cell.Byte 0 ∷ []) ++ rest ≡ count_byte ∷
         (name ++ (filled f (rows_cells ps) ++ 0 ∷ rest))
-    flatten =
-        ap (λ bs. bs ++ rest) (filled-append f (name_cells name ++ rows_cells ps) (Cell.Byte 0 ∷ []) ∙ ap (λ bs. bs ++ 0 ∷ [])
+    flatten = ap (λ bs. bs ++ rest) (filled-append f (name_cells name ++ rows_cells ps) (Cell.Byte 0 ∷ []) ∙ ap (λ bs. bs ++ 0 ∷ [])
         (filled-append f (name_cells name) (rows_cells ps)))
         ∙ append_assoc (filled f (name_cells name) ++ filled f (rows_cells ps)) (0 ∷ []) rest
         ∙ append_assoc (filled f (name_cells name)) (filled f (rows_cells ps)) (0 ∷ rest)
@@ -235,27 +219,23 @@ falling_below (suc k) ps = go (found k ps) refl (falling_below k ps)
 -- no property has a number that is not below the bound
 not_below : (n k : ℕ) (ps : List Property) → k ≤ n → AreFallingBelow k ps → found n ps ≡ None
 not_below n k [] h f = refl
-not_below n k (p ∷ ps) h f =
-    ap (λ (b : Bool). if b then Some p else found n ps) (ne_eqb p.number n (λ e. omega (arith, e, h, f.0)))
+not_below n k (p ∷ ps) h f = ap (λ (b : Bool). if b then Some p else found n ps) (ne_eqb p.number n (λ e. omega (arith, e, h, f.0)))
     ∙ not_below n p.number ps (omega (arith, h, f.0)) f.1
 
 pub found_falling : (n k : ℕ) (ps : List Property) → n < k → found n (falling k ps) ≡ found n ps
 found_falling n zero ps h = absurd (omega (arith, h))
-found_falling n (suc k) ps h =
-    found-append n (option_to_list (found k ps)) (falling k ps) ∙ go (n == k) refl (found_falling n k ps)
+found_falling n (suc k) ps h = found-append n (option_to_list (found k ps)) (falling k ps) ∙ go (n == k) refl (found_falling n k ps)
   where
     one : (o : Option Property) → found k ps ≡ o → (n ≡ k) → or_found (found n (option_to_list o)) (found n (falling k ps)) ≡ found n ps
     one None e same = not_below n k (falling k ps) (omega (arith, same)) (falling_below k ps) ∙ sym (ap (λ m. found m ps) same ∙ e)
-    one (Some p) e same =
-        ap (λ (b : Bool). or_found (if b then Some p else None) (found n (falling k ps)))
+    one (Some p) e same = ap (λ (b : Bool). or_found (if b then Some p else None) (found n (falling k ps)))
         (eq-eqb p.number n (found_number k ps p e ∙ sym same))
         ∙ sym (ap (λ m. found m ps) same ∙ e)
 
     other : (o : Option Property) → found k ps ≡ o → (n ≡ k → ⊥) → found n (falling k ps) ≡ found n ps →
         or_found (found n (option_to_list o)) (found n (falling k ps)) ≡ found n ps
     other None e isnt later = later
-    other (Some p) e isnt later =
-        ap (λ (b : Bool). or_found (if b then Some p else None) (found n (falling k ps)))
+    other (Some p) e isnt later = ap (λ (b : Bool). or_found (if b then Some p else None) (found n (falling k ps)))
         (ne_eqb p.number n (λ same. isnt (sym same ∙ found_number k ps p e))) ∙ later
 
     go : (b : Bool) → (n == k) ≡ b → (n < k → found n (falling k ps) ≡ found n ps) →
@@ -280,8 +260,7 @@ short_address part ps = go (has_individual ps)
 
 pub short_rows : (w : Owner) (part : ℕ) (o : Object) → length o.classes ≤ 32 → are_short o.properties ≡ true →
     are_short (rows_by w part o) ≡ true
-short_rows Owner.Object part o few short =
-    list_all-append is_short (class_rows o.classes ++ address_rows part o.properties) o.properties
+short_rows Owner.Object part o few short = list_all-append is_short (class_rows o.classes ++ address_rows part o.properties) o.properties
     ∙ and_from (are_short (class_rows o.classes ++ address_rows part o.properties)) (are_short o.properties)
     (list_all-append is_short (class_rows o.classes) (address_rows part o.properties)
     ∙ and_from (are_short (class_rows o.classes)) (are_short (address_rows part o.properties)) (short_classes o.classes few)

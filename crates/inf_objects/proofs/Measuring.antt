@@ -13,8 +13,7 @@ kind_within individual p = go (is_individual p) individual
     few : (part_of p).later ≤ (part_of p).bytes
     few = (few_here Owner.Object p).0
 
-    go : (a b : Bool)
-        → ((if a then (if b then part_of p else no_part) else (if b then no_part else part_of p)).later
+    go : (a b : Bool) → ((if a then (if b then part_of p else no_part) else (if b then no_part else part_of p)).later
         ≤ (if a then (if b then part_of p else no_part) else (if b then no_part else part_of p)).bytes)
         × ((if a then (if b then part_of p else no_part) else (if b then no_part else part_of p)).bytes ≤ (size_of Owner.Object p).bytes)
     go true true = (few, omega arith)
@@ -32,6 +31,5 @@ parts_within individual (p ∷ ps) =
       here.1,
       later,
       sum_by-cons (λ q. (kind_part individual q).bytes) p ps,
-      sum_by-cons (λ q. (size_of Owner.Object q).bytes) p
-          ps,
+      sum_by-cons (λ q. (size_of Owner.Object q).bytes) p ps,
     )

@@ -19,13 +19,8 @@ length-class_values (n ∷ ns) = omega (arith, length-class_values ns)
 pub class_rows_cells : (ns : List ℕ) → 0 < length ns →
     rows_cells (class_rows ns) ≡ size_cells 2 (length ns) ++ values_cells (class_values ns)
 class_rows_cells [] h = absurd (omega arith)
-class_rows_cells (n ∷ ns) h =
-    append-nil (size_cells 2 (length (class_values (n ∷ ns))) ++ values_cells (class_values (n ∷ ns)))
+class_rows_cells (n ∷ ns) h = append-nil (size_cells 2 (length (class_values (n ∷ ns))) ++ values_cells (class_values (n ∷ ns)))
     ∙ ap (λ k. size_cells 2 k ++ values_cells (class_values (n ∷ ns))) (length-class_values (n ∷ ns))
-
-pub no_class_rows : (ns : List ℕ) → length ns ≡ 0 → rows_cells (class_rows ns) ≡ []
-no_class_rows [] h = refl
-no_class_rows (n ∷ ns) h = absurd (omega arith)
 
 pub rows-append : (xs ys : List Property) → rows_cells (xs ++ ys) ≡ rows_cells xs ++ rows_cells ys
 rows-append [] ys = refl
@@ -82,8 +77,7 @@ three a b c = or_found (or_found a b) c
 
 found-rows : (part n : ℕ) (o : Object) → found n (rows_by Owner.Object part o) ≡ three (found n (class_rows o.classes))
     (found n (address_rows part o.properties)) (found n o.properties)
-found-rows part n o =
-    found-append n (class_rows o.classes ++ address_rows part o.properties) o.properties
+found-rows part n o = found-append n (class_rows o.classes ++ address_rows part o.properties) o.properties
     ∙ ap (λ x. or_found x (found n o.properties)) (found-append n (class_rows o.classes) (address_rows part o.properties))
 
 rows_for-object : (part n : ℕ) (o : Object) → AreFree o.properties →
@@ -97,23 +91,20 @@ rows_for-object part n o free = go (n == 2) (n == 3) refl refl
     ps = o.properties
 
     one : (k : ℕ) → k ≡ 2 → class_rows cs ≡ option_to_list (found k (rows_by Owner.Object part o))
-    one k is =
-        subst (λ m. class_rows cs ≡ option_to_list (found m (rows_by Owner.Object part o))) (sym is)
+    one k is = subst (λ m. class_rows cs ≡ option_to_list (found m (rows_by Owner.Object part o))) (sym is)
         (sym (ap option_to_list (found-rows part 2 o ∙ ap (λ x. three (found 2 (class_rows cs)) x (found 2 ps)) (no_address 2 part ps refl)
         ∙ ap (λ x. three (found 2 (class_rows cs)) None x) (none-found 2 ps free.no_classes)
         ∙ first_alone (found 2 (class_rows cs))) ∙ classes_are cs))
 
     two : (k : ℕ) → k ≡ 3 → address_rows part ps ≡ option_to_list (found k (rows_by Owner.Object part o))
-    two k is =
-        subst (λ m. address_rows part ps ≡ option_to_list (found m (rows_by Owner.Object part o))) (sym is)
+    two k is = subst (λ m. address_rows part ps ≡ option_to_list (found m (rows_by Owner.Object part o))) (sym is)
         (sym (ap option_to_list (found-rows part 3 o ∙ ap (λ x. three x (found 3 (address_rows part ps)) (found 3 ps))
         (no_classes 3 cs refl)
         ∙ ap (λ x. three None (found 3 (address_rows part ps)) x) (none-found 3 ps free.no_address)
         ∙ second_alone (found 3 (address_rows part ps))) ∙ address_is part ps))
 
     other : (n ≡ 2 → ⊥) → (n ≡ 3 → ⊥) → option_to_list (found n ps) ≡ option_to_list (found n (rows_by Owner.Object part o))
-    other e f =
-        sym (ap option_to_list (found-rows part n o ∙ ap (λ x. three x (found n (address_rows part ps)) (found n ps))
+    other e f = sym (ap option_to_list (found-rows part n o ∙ ap (λ x. three x (found n (address_rows part ps)) (found n ps))
         (no_classes n cs (ne_eqb 2 n (λ same. e (sym same))))
         ∙ ap (λ x. three None x (found n ps)) (no_address n part ps (ne_eqb 3 n (λ same. f (sym same))))))
 

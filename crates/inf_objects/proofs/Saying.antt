@@ -1,6 +1,6 @@
 -- The attributes that a body gives and takes away one after another are those of the object in the end.
-use Rattle.std.proofs.Common.{◌≡◌, ◌<◌, ◌∷◌, [], ℕ, zero, suc, List, Bool, Option, Some, None, fold, length, length-set, replicate, refl}
-use Rattle.std.proofs.Common.{sym, ap, ◌∙◌, arith, slice_set}
+use Rattle.std.proofs.Common.{◌≡◌, ◌∷◌, [], ℕ, zero, suc, List, Bool, Option, Some, None, fold, length, length-set, replicate, refl}
+use Rattle.std.proofs.Common.{ap, ◌∙◌, arith, slice_set}
 use Rattle.inf_objects.specs.Attributes.{attributes_by, nothing_said, said_or}
 
 nothing_changes : (n : ℕ) (above : List Bool) → attributes_by above (replicate n None) ≡ above

@@ -1,9 +1,9 @@
 -- An interpreter finds below an object its children.
-use Rattle.std.proofs.Common.{◌≡◌, ◌≤◌, ◌<◌, ◌+◌, ◌-◌, ◌∷◌, ◌++◌, ◌==◌, [], ℕ, zero, suc, List, Bool, true, false, length, get_or, refl}
-use Rattle.std.proofs.Common.{sym, ap, subst, ◌∙◌, arith, count_by, slice_index_or, if◌then◌else◌}
-use Rattle.std.proofs.{lemmas.Bool.eq-eqb, lemmas.Bool.eqb-false, lemmas.Bool.eqb-true, lemmas.Bool.ne_eqb, lemmas.List.Sums.sum_by-cons}
+use Rattle.std.proofs.Common.{◌≡◌, ◌≤◌, ◌<◌, ◌+◌, ◌-◌, ◌∷◌, ◌==◌, [], ℕ, zero, suc, List, Bool, true, false, length, get_or, refl}
+use Rattle.std.proofs.Common.{ap, ◌∙◌, arith, count_by, if◌then◌else◌}
+use Rattle.std.proofs.{lemmas.Bool.eq-eqb, lemmas.Bool.eqb-true, lemmas.Bool.ne_eqb, lemmas.List.Sums.sum_by-cons}
 use Rattle.inf_objects.specs.declared.tree.Link.{Link}
-use Rattle.inf_objects.specs.Tree.{AreRisingFrom, child_of, children_from, children_of, first_of, link_at, link_of, links_of, next_below}
+use Rattle.inf_objects.specs.Tree.{AreRisingFrom, children_from, children_of, first_of, link_at, link_of, links_of, next_below}
 use Rattle.inf_objects.specs.Tree.{no_link, sibling_from, sibling_of, walked}
 use Rattle.inf_objects.proofs.Hanging.{get-each}
 
@@ -19,8 +19,7 @@ sibling_here first p rest =
 
 sibling_later : (number first p : ℕ) (rest : List ℕ) → first < number →
     sibling_from number first (p ∷ rest) ≡ sibling_from number (first + 1) rest
-sibling_later number first p rest h =
-    ap (λ (b : Bool). if b then next_below p (first + 1) rest else sibling_from number (first + 1) rest)
+sibling_later number first p rest h = ap (λ (b : Bool). if b then next_below p (first + 1) rest else sibling_from number (first + 1) rest)
     (ne_eqb number first (λ e. omega (arith, h, e)))
 
 -- the walk goes from an object to its sibling
@@ -45,8 +44,7 @@ walk : (parents : List ℕ) (most first parent : ℕ) (rest : List ℕ) → (par
 walk parents zero first parent [] e f g h is = refl
 walk parents (suc most) first parent [] e f g h is = refl
 walk parents zero first parent (p ∷ rest) e f g h is = absurd (omega (arith, h))
-walk parents (suc most) first parent (p ∷ rest) e f g h is =
-    go (p == parent) refl
+walk parents (suc most) first parent (p ∷ rest) e f g h is = go (p == parent) refl
     (walk parents most (first + 1) parent rest e (omega arith) (omega (arith, g)) (omega (arith, h)) (rest_next parents first p rest is))
     (walk parents (suc most) (first + 1) parent rest e (omega arith) (omega (arith, g)) (omega (arith, h))
     (rest_next parents first p rest is))
@@ -73,8 +71,7 @@ walk parents (suc most) first parent (p ∷ rest) e f g h is =
 
 pub walk_children : (parents : List ℕ) (number : ℕ) → number < length parents
     → walked (length parents) (links_of parents) (link_at (links_of parents) number).child ≡ children_of (number + 1) parents
-walk_children parents number h =
-    ap (λ (l : Link). walked (length parents) (links_of parents) l.child) (link_is parents number h)
+walk_children parents number h = ap (λ (l : Link). walked (length parents) (links_of parents) l.child) (link_is parents number h)
     ∙ walk parents (length parents) 1 (number + 1) parents (ne_eqb (number + 1) 0 (λ e. omega (arith, e))) (omega arith) (omega arith)
     (omega arith) (λ n k. refl)
 
@@ -112,13 +109,12 @@ count_behind number first parent (p ∷ parents) h = go (p == parent) (count_beh
   where
     go : (b : Bool) → count_of number (children_from (first + 1) parent parents) ≡ 0
         → count_of number (if b then first ∷ children_from (first + 1) parent parents else children_from (first + 1) parent parents) ≡ 0
-    go true later =
-        omega (
-          arith,
-          count_cons number first (children_from (first + 1) parent parents),
-          not_this number first (λ e. omega (arith, e, h)),
-          later,
-        )
+    go true later = omega (
+      arith,
+      count_cons number first (children_from (first + 1) parent parents),
+      not_this number first (λ e. omega (arith, e, h)),
+      later,
+    )
     go false later = later
 
 pub count_once : (number first parent : ℕ) (parents : List ℕ) → number < length parents
@@ -141,12 +137,10 @@ count_once (suc number) first parent (p ∷ parents) h =
         → count_of (first + suc number) (if b then first ∷ children_from (first + 1) parent parents else children_from (first + 1) parent
         parents)
         ≡ one_if (get_or parents number 0 == parent)
-    go true later =
-        omega (
-          arith,
-          count_cons (first + suc number) first (children_from (first + 1) parent parents),
-          not_this (first + suc number) first
-              (λ e. omega (arith, e)),
-          later,
-        )
+    go true later = omega (
+      arith,
+      count_cons (first + suc number) first (children_from (first + 1) parent parents),
+      not_this (first + suc number) first (λ e. omega (arith, e)),
+      later,
+    )
     go false later = later

@@ -13,26 +13,13 @@ use Rattle.inf_objects.specs.Measures.{kind_part, measure_by, measured, no_part,
 use Rattle.inf_objects.specs.Tables.{address_rows, all_falling, byte_cells, class_rows, class_values, falling, has_individual}
 use Rattle.inf_objects.specs.Tables.{individual_row_cells, individual_rows_cells, individual_table_by, individual_table_cells}
 use Rattle.inf_objects.specs.Tables.{is_individual, name_cells, row_cells, rows_by, rows_cells, shown, size_cells, table_cells}
+use Rattle.inf_area.proofs.Joining.{later_count-append, size-append, values_size}
 use Rattle.inf_objects.proofs.Falling.{below, below_in, below_out, sum_rows}
 use Rattle.inf_objects.proofs.Rows.{length-class_values, nothing_falls}
 
 -- the number of bytes of cells
 abbrev pub size : List Cell → ℕ
 size cells = length (bytes_of cells)
-
-pub size_joined : (xs ys : List Cell) → size (xs ++ ys) ≡ size xs + size ys
-size_joined [] ys = omega arith
-size_joined (Cell.Byte b ∷ xs) ys = omega (arith, size_joined xs ys)
-size_joined (Cell.Later t ∷ xs) ys = omega (arith, size_joined xs ys)
-
-pub later_joined : (xs ys : List Cell) → later_count (xs ++ ys) ≡ later_count xs + later_count ys
-later_joined [] ys = omega arith
-later_joined (Cell.Byte b ∷ xs) ys = later_joined xs ys
-later_joined (Cell.Later t ∷ xs) ys = omega (arith, later_joined xs ys)
-
-value_size : (v : Value) → size (value_cells v) ≡ 2
-value_size (Value.Known n) = refl
-value_size (Value.Later t) = refl
 
 value_later : (v : Value) → later_count (value_cells v) ≡ values_later (v ∷ [])
 value_later (Value.Known n) = refl
@@ -42,13 +29,9 @@ later_cons : (v : Value) (vs : List Value) → values_later (v ∷ vs) ≡ value
 later_cons (Value.Known n) vs = omega arith
 later_cons (Value.Later t) vs = omega arith
 
-pub values_size : (vs : List Value) → size (values_cells vs) ≡ 2 * length vs
-values_size [] = refl
-values_size (v ∷ vs) = omega (arith, size_joined (value_cells v) (values_cells vs), value_size v, values_size vs)
-
 pub values_laters : (vs : List Value) → later_count (values_cells vs) ≡ values_later vs
 values_laters [] = refl
-values_laters (v ∷ vs) = omega (arith, later_joined (value_cells v) (values_cells vs), value_later v, values_laters vs, later_cons v vs)
+values_laters (v ∷ vs) = omega (arith, later_count-append (value_cells v) (values_cells vs), value_later v, values_laters vs, later_cons v vs)
 
 shown_later : (vs : List Value) → values_later (shown vs) ≡ values_later vs
 shown_later [] = refl
@@ -82,18 +65,16 @@ row_by n (v ∷ vs) =
     elim (cases_lt 1 (length (v ∷ vs))) [
       | inl h ↦ omega (
         arith,
-        size_joined (size_cells n (length (v ∷ vs))) (values_cells (v ∷ vs)),
+        size-append (size_cells n (length (v ∷ vs))) (values_cells (v ∷ vs)),
         values_size (v ∷ vs),
-        more_size n
-            (length (v ∷ vs)) h,
+        more_size n (length (v ∷ vs)) h,
         common_more (length (v ∷ vs)) h,
       )
       | inr h ↦ omega (
         arith,
-        size_joined (size_cells n (length (v ∷ vs))) (values_cells (v ∷ vs)),
+        size-append (size_cells n (length (v ∷ vs))) (values_cells (v ∷ vs)),
         values_size (v ∷ vs),
-        few_size n
-            (length (v ∷ vs)) h,
+        few_size n (length (v ∷ vs)) h,
         common_few (length (v ∷ vs)) h,
       )
     ]
@@ -107,16 +88,15 @@ row_laters p = values_later p.values
 pub rows_size : (ps : List Property) → size (rows_cells ps) ≡ sum_by row_size ps
 rows_size [] = refl
 rows_size (p ∷ ps) =
-    omega (arith, size_joined (row_cells p) (rows_cells ps), row_by p.number p.values, rows_size ps, sum_by-cons row_size p ps)
+    omega (arith, size-append (row_cells p) (rows_cells ps), row_by p.number p.values, rows_size ps, sum_by-cons row_size p ps)
 
 row_later : (p : Property) → later_count (row_cells p) ≡ row_laters p
-row_later p =
-    later_joined (size_cells p.number (length p.values)) (values_cells (shown p.values))
+row_later p = later_count-append (size_cells p.number (length p.values)) (values_cells (shown p.values))
     ∙ omega (arith, size_later p.number (length p.values), values_laters (shown p.values), shown_later p.values)
 
 pub rows_later : (ps : List Property) → later_count (rows_cells ps) ≡ sum_by row_laters ps
 rows_later [] = refl
-rows_later (p ∷ ps) = omega (arith, later_joined (row_cells p) (rows_cells ps), row_later p, rows_later ps, sum_by-cons row_laters p ps)
+rows_later (p ∷ ps) = omega (arith, later_count-append (row_cells p) (rows_cells ps), row_later p, rows_later ps, sum_by-cons row_laters p ps)
 
 -- The list of classes and the address take the bytes that they count.
 class_size : (cs : List ℕ) → sum_by row_size (class_rows cs) ≡ list_bytes (length cs)
@@ -135,34 +115,24 @@ class_size (c ∷ cs) =
           | inr e ↦ common_more n (omega (arith, e, h)) ∙ sym (ap (λ (b : Bool). if b then 3 else 2 + 2 * n) (ne_eqb n 1 e))
         ]
 
-known_classes : (cs : List ℕ) → values_later (class_values cs) ≡ 0
+pub known_classes : (cs : List ℕ) → values_later (class_values cs) ≡ 0
 known_classes [] = refl
 known_classes (c ∷ cs) = known_classes cs
 
 class_later : (cs : List ℕ) → sum_by row_laters (class_rows cs) ≡ 0
 class_later [] = refl
-class_later (c ∷ cs) =
-    sum_by-cons row_laters (record { number = 2; is_additive = false; values = class_values (c ∷ cs) }) []
+class_later (c ∷ cs) = sum_by-cons row_laters (record { number = 2; is_additive = false; values = class_values (c ∷ cs) }) []
     ∙ omega (arith, known_classes (c ∷ cs))
 
-address_size : (part : ℕ) (ps : List Property) → sum_by row_size (address_rows part ps) ≡ (if has_individual ps then 3 else 0)
-address_size part ps = go (has_individual ps)
+abbrev address_row : ℕ → Property
+address_row part = record { number = 3; is_additive = false; values = Value.Later (Target.Part AreaName.IndividualTables part) ∷ [] }
+
+address_sum : (f : Property → ℕ) (n part : ℕ) (ps : List Property) → f (address_row part) ≡ n
+    → sum_by f (address_rows part ps) ≡ (if has_individual ps then n else 0)
+address_sum f n part ps is = go (has_individual ps)
   where
-    row : Property
-    row = record { number = 3; is_additive = false; values = Value.Later (Target.Part AreaName.IndividualTables part) ∷ [] }
-
-    go : (b : Bool) → sum_by row_size (if b then row ∷ [] else []) ≡ (if b then 3 else 0)
-    go true = refl
-    go false = refl
-
-address_later : (part : ℕ) (ps : List Property) → sum_by row_laters (address_rows part ps) ≡ (if has_individual ps then 1 else 0)
-address_later part ps = go (has_individual ps)
-  where
-    row : Property
-    row = record { number = 3; is_additive = false; values = Value.Later (Target.Part AreaName.IndividualTables part) ∷ [] }
-
-    go : (b : Bool) → sum_by row_laters (if b then row ∷ [] else []) ≡ (if b then 1 else 0)
-    go true = refl
+    go : (b : Bool) → sum_by f (if b then address_row part ∷ [] else []) ≡ (if b then n else 0)
+    go true = sum_by-cons f (address_row part) [] ∙ omega (arith, is)
     go false = refl
 
 -- the bytes and later numbers of properties, kind by kind
@@ -250,8 +220,8 @@ table_parts : (part : ℕ) (o : Object) (rows : List Cell)
     (later_count (name_cells o.name ++ rows ++ Cell.Byte 0 ∷ []) ≡ later_count rows)
 table_parts part o rows =
     let name = bytes_size o.name in (
-      omega (arith, size_joined (name_cells o.name ++ rows) (Cell.Byte 0 ∷ []), size_joined (name_cells o.name) rows, name.0),
-      omega (arith, later_joined (name_cells o.name ++ rows) (Cell.Byte 0 ∷ []), later_joined (name_cells o.name) rows, name.1),
+      omega (arith, size-append (name_cells o.name ++ rows) (Cell.Byte 0 ∷ []), size-append (name_cells o.name) rows, name.0),
+      omega (arith, later_count-append (name_cells o.name ++ rows) (Cell.Byte 0 ∷ []), later_count-append (name_cells o.name) rows, name.1),
     )
 
 object_rows : (part : ℕ) (o : Object) → AreNew [] o.properties → AreFree o.properties
@@ -266,9 +236,9 @@ object_rows part o new free =
     let bytes = same_sums (λ p. (kind_part false p).bytes) (below 64 row_size) ps (λ p. (common_kind p).0) in
     let laters = same_sums (λ p. (kind_part false p).later) (below 64 row_laters) ps (λ p. (common_kind p).1) in (
       rows_size (falling 64 rows) ∙ sum_rows row_size 64 part o (omega arith) new free
-          ∙ omega (arith, class_size o.classes, address_size part ps, bytes),
+          ∙ omega (arith, class_size o.classes, address_sum row_size 3 part ps refl, bytes),
       rows_later (falling 64 rows) ∙ sum_rows row_laters 64 part o (omega arith) new free
-          ∙ omega (arith, class_later o.classes, address_later part ps, laters),
+          ∙ omega (arith, class_later o.classes, address_sum row_laters 1 part ps refl, laters),
     )
 
 bare_rows : (part : ℕ) (o : Object) → (size (rows_cells (all_falling [])) ≡ 0) × (later_count (rows_cells (all_falling [])) ≡ 0)
@@ -320,20 +290,19 @@ individual_row p =
     let number = word_cells (p.number % 65536) in
     let count = Cell.Byte (2 * length (shown p.values) % 256) ∷ [] in
     let values = values_cells (shown p.values) in (
-      omega (arith, size_joined (number ++ count) values, size_joined number count, values_size (shown p.values), shown_bytes p.values),
-      omega (arith, later_joined (number ++ count) values, later_joined number count, values_laters (shown p.values), shown_later p.values),
+      omega (arith, size-append (number ++ count) values, size-append number count, values_size (shown p.values), shown_bytes p.values),
+      omega (arith, later_count-append (number ++ count) values, later_count-append number count, values_laters (shown p.values), shown_later p.values),
     )
 
-individual_rows : (ps : List Property)
-    → (size (individual_rows_cells ps) ≡ sum_by (individual_if individual_size) ps) ×
+individual_rows : (ps : List Property) → (size (individual_rows_cells ps) ≡ sum_by (individual_if individual_size) ps) ×
     (later_count (individual_rows_cells ps) ≡ sum_by (individual_if row_laters) ps)
 individual_rows [] = (refl, refl)
 individual_rows (p ∷ ps) =
     let here = one (is_individual p) in
     let later = individual_rows ps in
     let cells = if is_individual p then individual_row_cells p else [] in (
-      omega (arith, size_joined cells (individual_rows_cells ps), here.0, later.0, sum_by-cons (individual_if individual_size) p ps),
-      omega (arith, later_joined cells (individual_rows_cells ps), here.1, later.1, sum_by-cons (individual_if row_laters) p ps),
+      omega (arith, size-append cells (individual_rows_cells ps), here.0, later.0, sum_by-cons (individual_if individual_size) p ps),
+      omega (arith, later_count-append cells (individual_rows_cells ps), here.1, later.1, sum_by-cons (individual_if row_laters) p ps),
     )
   where
     one : (b : Bool) → (size (if b then individual_row_cells p else []) ≡ (if b then individual_size p else 0))
@@ -341,8 +310,7 @@ individual_rows (p ∷ ps) =
     one true = individual_row p
     one false = (refl, refl)
 
-individual_table : (ps : List Property) (b : Bool)
-    → (size (if b then individual_rows_cells ps ++ word_cells 0 else []) ≡
+individual_table : (ps : List Property) (b : Bool) → (size (if b then individual_rows_cells ps ++ word_cells 0 else []) ≡
     (if b then record { bytes = (parts_of true ps).bytes + 2; later = (parts_of true ps).later } else no_part).bytes)
     × (later_count (if b then individual_rows_cells ps ++ word_cells 0 else []) ≡
     (if b then record { bytes = (parts_of true ps).bytes + 2; later = (parts_of true ps).later } else no_part).later)
@@ -350,29 +318,25 @@ individual_table ps true =
     let rows = individual_rows ps in (
       omega (
         arith,
-        size_joined (individual_rows_cells ps) (word_cells 0),
+        size-append (individual_rows_cells ps) (word_cells 0),
         rows.0,
-        same_sums (λ p. (kind_part true p).bytes)
-            (individual_if individual_size) ps (λ p. (individual_kind p).0),
+        same_sums (λ p. (kind_part true p).bytes) (individual_if individual_size) ps (λ p. (individual_kind p).0),
       ),
       omega (
         arith,
-        later_joined (individual_rows_cells ps) (word_cells 0),
+        later_count-append (individual_rows_cells ps) (word_cells 0),
         rows.1,
-        same_sums (λ p. (kind_part true p).later)
-            (individual_if row_laters) ps (λ p. (individual_kind p).1),
+        same_sums (λ p. (kind_part true p).later) (individual_if row_laters) ps (λ p. (individual_kind p).1),
       ),
     )
 individual_table ps false = (refl, refl)
 
-individual_by : (w : Owner) (o : Object)
-    → (size (individual_table_by w o.properties) ≡ (measure_by w o).individual_table.bytes) ×
+individual_by : (w : Owner) (o : Object) → (size (individual_table_by w o.properties) ≡ (measure_by w o).individual_table.bytes) ×
     (later_count (individual_table_by w o.properties) ≡ (measure_by w o).individual_table.later)
 individual_by Owner.Object o = individual_table o.properties (has_individual o.properties)
 individual_by Owner.Class o = (refl, refl)
 individual_by Owner.Nothing o = (refl, refl)
 
-pub individual_table_measured : (o : Object)
-    → (size (individual_table_cells o) ≡ (measured o).individual_table.bytes) ×
+pub individual_table_measured : (o : Object) → (size (individual_table_cells o) ≡ (measured o).individual_table.bytes) ×
     (later_count (individual_table_cells o) ≡ (measured o).individual_table.later)
 individual_table_measured o = individual_by o.owner o

@@ -8,14 +8,6 @@ use Rattle.inf_opcode.specs.Instructions.{operand_cells, store_cells, branch_cel
 use Rattle.inf_opcode.proofs.Growing.{long-append, long-plain, kept-append, kept-plain}
 use Rattle.inf_opcode.proofs.Counting.{length-long, operands_more}
 
--- The bytes of joined parts are those of each, one behind the other.
-pub long-front : (head : List ℕ) (a b c : List Cell) →
-    long_bytes (plain head ++ a ++ b ++ c) ≡ head ++ long_bytes a ++ long_bytes b ++ long_bytes c
-long-front head a b c =
-    long-append (plain head ++ a ++ b) c
-    ∙ ap (λ x. x ++ long_bytes c) (long-append (plain head ++ a) b ∙ ap (λ x. x ++ long_bytes b)
-    (long-append (plain head) a ∙ ap (λ x. x ++ long_bytes a) (long-plain head)))
-
 pub size-front : (head : List ℕ) (a b c : List Cell) →
     length (long_bytes (plain head ++ a ++ b ++ c)) ≡ length head + length (long_bytes a) + length (long_bytes b) + length (long_bytes c)
 size-front head a b c = omega (
@@ -23,8 +15,7 @@ size-front head a b c = omega (
   length-long (plain head ++ a ++ b) c,
   length-long (plain head ++ a) b,
   length-long (plain head) a,
-  ap
-      length (long-plain head),
+  ap length (long-plain head),
 )
 
 -- An operand and those before it are not longer than all operands.
@@ -55,8 +46,7 @@ pub kept-more : (place : ℕ) (operands : List Operand) (i : ℕ) (d : Operand) 
     → kept_from place (flat_map operand_cells (take (i + 1) operands))
     ≡ kept_from place (flat_map operand_cells (take i operands)) ++ kept_from
     (place + length (long_bytes (flat_map operand_cells (take i operands)))) (operand_cells (get_or operands i d))
-kept-more place operands i d within =
-    ap (kept_from place) (operands_more operands i d within)
+kept-more place operands i d within = ap (kept_from place) (operands_more operands i d within)
     ∙ kept-append place (flat_map operand_cells (take i operands)) (operand_cells (get_or operands i d))
 
 -- Of a store variable, a plain byte, nothing is kept.

@@ -41,8 +41,7 @@ pub grew_plain : (bytes added new_bytes : List ℕ) (kept : List Kept) → new_b
 grew_plain bytes added new_bytes kept e =
     record {
       bytes = e ∙ ap (λ xs. bytes ++ xs) (sym (long-plain added));
-      kept = sym (append-nil kept) ∙ ap (λ ks. kept ++ ks)
-          (sym (kept-plain (length bytes) added));
+      kept = sym (append-nil kept) ∙ ap (λ ks. kept ++ ks) (sym (kept-plain (length bytes) added));
     }
 
 pub grew_special : (bytes new_bytes : List ℕ) (kept new_kept : List Kept) (what : Special) → new_bytes ≡ bytes ++ special_bytes what →
@@ -56,19 +55,13 @@ pub grew_then : {bytes mid new_bytes : List ℕ} {kept mid_kept new_kept : List 
 grew_then {bytes = bytes} {mid = mid} {kept = kept} {xs = xs} {ys = ys} first second =
     let longer : length mid ≡ length bytes + length (long_bytes xs) = ap length first.bytes ∙ length-append bytes (long_bytes xs) in
     record {
-      bytes =
-          second.bytes ∙ ap (λ b. b ++ long_bytes ys) first.bytes ∙ append_assoc bytes (long_bytes xs) (long_bytes ys)
+      bytes = second.bytes ∙ ap (λ b. b ++ long_bytes ys) first.bytes ∙ append_assoc bytes (long_bytes xs) (long_bytes ys)
           ∙ ap (λ b. bytes ++ b) (sym (long-append xs ys));
-      kept =
-          second.kept ∙ ap (λ k. k ++ kept_from (length mid) ys) first.kept
+      kept = second.kept ∙ ap (λ k. k ++ kept_from (length mid) ys) first.kept
           ∙ append_assoc kept (kept_from (length bytes) xs) (kept_from (length mid) ys)
           ∙ ap (λ n. kept ++ (kept_from (length bytes) xs ++ kept_from n ys)) longer
           ∙ ap (λ k. kept ++ k) (sym (kept-append (length bytes) xs ys));
     }
-
--- Bytes and kept parts that stay as they were are longer by nothing.
-pub longer_none : (bytes : List ℕ) (kept : List Kept) → Longer bytes kept bytes kept
-longer_none bytes kept = record { added = []; added_kept = []; bytes = sym (append-nil bytes); kept = sym (append-nil kept) }
 
 pub longer_by : (bytes new_bytes added : List ℕ) (kept new_kept added_kept : List Kept) → new_bytes ≡ bytes ++ added →
     new_kept ≡ kept ++ added_kept → Longer bytes kept new_bytes new_kept

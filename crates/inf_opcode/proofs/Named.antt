@@ -41,8 +41,7 @@ abbrev place : List ℕ → ℕ
 place name = get_or all_places (slot name) 98
 
 same_place : (s : List ℕ) (o : Opcode) → has_name s o ≡ true → place (name_of o) ≡ place s
-same_place s o e =
-    ap (λ n. get_or all_places n 98)
+same_place s o e = ap (λ n. get_or all_places n 98)
     (slot_same (name_of o) s ((bytes_eq-Decides (map to_ascii_lowercase (name_of o)) (map to_ascii_lowercase s)).0 e))
 
 -- An opcode at another place than that of the name does not have the name.

@@ -50,8 +50,7 @@ alike_self locals = record { number = λ name. refl }
 pub alike_on : (tokens : List SourceToken) (l : Leaf) (locals others new : List Local) → Alike locals others
     → new ≡ leaf_named tokens l locals → Alike new others
 alike_on tokens l locals others new alike e = record {
-  number =
-      λ name. ap (λ (ls : List Local). local_number name ls) e ∙ (alike_leaf tokens l locals).number name ∙ alike.number name;
+  number = λ name. ap (λ (ls : List Local). local_number name ls) e ∙ (alike_leaf tokens l locals).number name ∙ alike.number name;
 }
 
 -- That statements name locals does not matter for leaves that are looked up.

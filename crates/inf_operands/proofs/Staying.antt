@@ -114,8 +114,7 @@ alike_leaf tokens (Leaf.System at) locals = record { number = λ name. refl }
 pub alike_leaves : (tokens : List SourceToken) (leaves : List Leaf) (locals : List Local) → Alike (leaves_named tokens leaves locals) locals
 alike_leaves tokens [] locals = record { number = λ name. refl }
 alike_leaves tokens (l ∷ leaves) locals = record {
-  number =
-      λ name. (alike_leaves tokens leaves (leaf_named tokens l locals)).number name ∙ (alike_leaf tokens l locals).number name;
+  number = λ name. (alike_leaves tokens leaves (leaf_named tokens l locals)).number name ∙ (alike_leaf tokens l locals).number name;
 }
 
 pub alike_store : (tokens : List SourceToken) (i : Item) (locals : List Local) → Alike (store_named tokens i locals) locals
@@ -132,8 +131,7 @@ alike_store tokens (Item.Jump at) locals = record { number = λ name. refl }
 pub alike_stores : (tokens : List SourceToken) (items : List Item) (locals : List Local) → Alike (stores_named tokens items locals) locals
 alike_stores tokens [] locals = record { number = λ name. refl }
 alike_stores tokens (i ∷ items) locals = record {
-  number =
-      λ name. (alike_stores tokens items (store_named tokens i locals)).number name ∙ (alike_store tokens i locals).number name;
+  number = λ name. (alike_stores tokens items (store_named tokens i locals)).number name ∙ (alike_store tokens i locals).number name;
 }
 
 name_alike : (limits : Limits) (locals others : List Local) (name : Option Name) (o : Out) → Alike locals others
@@ -171,7 +169,6 @@ pub settled_named : (limits : Limits) (set : CharSet) (locals : List Local) (tok
     ≡ settled limits set locals tokens leaves s
 settled_named limits set locals tokens leaves items s =
     settled_alike limits set (stores_named tokens items (leaves_named tokens leaves locals)) locals tokens leaves s (record {
-      number =
-          λ name. (alike_stores tokens items (leaves_named tokens leaves locals)).number name
+      number = λ name. (alike_stores tokens items (leaves_named tokens leaves locals)).number name
           ∙ (alike_leaves tokens leaves locals).number name;
     })

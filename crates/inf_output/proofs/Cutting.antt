@@ -4,7 +4,6 @@ use Rattle.std.proofs.lemmas.List.{take_at, drop_all}
 
 -- Where all bytes that were appended are cut off again, those before are left.
 pub cut_behind : (bytes more : List ℕ) → take (length bytes) (bytes ++ more) ++ drop (length bytes + length more) (bytes ++ more) ≡ bytes
-cut_behind bytes more =
-    ap (λ xs. xs ++ drop (length bytes + length more) (bytes ++ more)) (take_at bytes more (length bytes) refl)
+cut_behind bytes more = ap (λ xs. xs ++ drop (length bytes + length more) (bytes ++ more)) (take_at bytes more (length bytes) refl)
     ∙ ap (λ xs. bytes ++ xs) (drop_all (length bytes + length more) (bytes ++ more) (omega (arith, length-append bytes more)))
     ∙ append-nil bytes

@@ -28,11 +28,9 @@ order_noted Part.Loop w = refl
 order_noted Part.Switched w = refl
 order_noted Part.Case w = refl
 
-pub trees_noted : (p : Part) (w : Compilation) (trees : List Rooted)
-    → trees ≡ trees_at (order_of p w) (wanted_of p) (operands_of w) w
+pub trees_noted : (p : Part) (w : Compilation) (trees : List Rooted) → trees ≡ trees_at (order_of p w) (wanted_of p) (operands_of w) w
     → trees ≡ trees_at (order_of p (leaves_noted w)) (wanted_of p) (operands_of (leaves_noted w)) (leaves_noted w)
-trees_noted p w trees e =
-    e
+trees_noted p w trees e = e
     ∙ sym (ap (λ (operands : List Operand). trees_of (wanted_of p) (order_of p w) operands w.unit.gathering.symbols) (operands_noted w))
     ∙ sym (ap (λ (n : ℕ). trees_of (wanted_of p) n (operands_of (leaves_noted w)) w.unit.gathering.symbols) (order_noted p w))
 

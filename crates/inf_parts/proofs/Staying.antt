@@ -56,8 +56,7 @@ stays_used limits context Part.Case w operands trees other stay e = absurd (cc o
 -- what is laid with such trees
 carried : (limits : Limits) (context : Context) (first : Place) (p : Part) (trees : List Rooted) (w : Compilation)
     → StayUsed limits context p trees w → part_laid limits context first p trees w ≡ part_carried limits context first p None w
-carried limits context first p trees w stay =
-    ap (λ (ts : List Rooted). part_laid limits context first p ts w) stay.0
+carried limits context first p trees w stay = ap (λ (ts : List Rooted). part_laid limits context first p ts w) stay.0
     ∙ ap (λ (o : Out). unit_ended limits context first (has_last p) nothing_found
     (part_effect limits context p (trees_at (order_of p w) (wanted_of p) (settled_of limits context w).operands w)
     (record w { output = record o { first = first } }))) (sym stay.1)

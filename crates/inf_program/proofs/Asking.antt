@@ -76,8 +76,7 @@ took_by limits context t r w reading c fit l false e = record {
 }
 took_by limits context t r w reading c fit l true e =
     let n : Taken Action = taken grammar known (atom_of t) r.stack in
-    let over : (reads r.mode && is_empty n.left) ≡ true =
-    ap (λ (m : Recovery). reads m && is_empty n.left) reading ∙ l.at_end e in
+    let over : (reads r.mode && is_empty n.left) ≡ true = ap (λ (m : Recovery). reads m && is_empty n.left) reading ∙ l.at_end e in
     record {
       inside = λ inside. absurd (true≢false (sym over ∙ inside));
       hash = λ is_hash. absurd (true≢false (sym (l.semicolon e) ∙ hash_atom t is_hash));
@@ -87,11 +86,7 @@ took_by limits context t r w reading c fit l true e =
 
 bad_calm : (limits : Limits) (context : Context) (t : SourceToken) (r : Reading) (w : Compilation) → Calm (stand r w)
     → Calm (bad limits context t r w)
-bad_calm limits context t r w c = record {
-  asks = (messages_grow limits).asks.cut context t.place w ∙ c.asks;
-  last = refl;
-  spaced = tt;
-}
+bad_calm limits context t r w c = record { asks = (messages_grow limits).asks.cut context t.place w ∙ c.asks; last = refl; spaced = tt }
 
 judged_by : (limits : Limits) (context : Context) (t : SourceToken) (r : Reading) (w : Compilation) → r.mode ≡ Recovery.Reads
     → Calm (stand r w) → (b : Bool) → fits grammar known (atom_of t) r.stack ≡ b
@@ -99,8 +94,7 @@ judged_by : (limits : Limits) (context : Context) (t : SourceToken) (r : Reading
 judged_by limits context t r w reading c true fit =
     took_by limits context t r w reading c fit (token_lasts (atom_of t) r.stack fit c.spaced c.last)
     (some_end (taken grammar known (atom_of t) r.stack).actions) refl
-judged_by limits context t r w reading c false fit =
-    settled t.kind (bad limits context t r w) (bad_calm limits context t r w c)
+judged_by limits context t r w reading c false fit = settled t.kind (bad limits context t r w) (bad_calm limits context t r w c)
 
 judged_settled : (limits : Limits) (context : Context) (t : SourceToken) (r : Reading) (w : Compilation) → r.mode ≡ Recovery.Reads
     → Calm (stand r w) → Settled t.kind (judged limits context t r w)
@@ -112,8 +106,7 @@ new_by : (limits : Limits) (context : Context) (t : SourceToken) (r : Reading) (
     → Settled t.kind (if b then stand (record r { mode = Recovery.Ended }) w else judged limits context t (piece_begun r) (work_begun w))
 new_by limits context t r w reading c true =
     settled t.kind (stand (record r { mode = Recovery.Ended }) w) (record { asks = c.asks; last = c.last; spaced = c.spaced })
-new_by limits context t r w reading c false =
-    judged_settled limits context t (piece_begun r) (work_begun w) reading
+new_by limits context t r w reading c false = judged_settled limits context t (piece_begun r) (work_begun w) reading
     (record { asks = c.asks; last = refl; spaced = rule_is_spaced piece_rule })
 
 read_settled : (limits : Limits) (context : Context) (t : SourceToken) (stack : List (Symbol Action)) (r : Reading) (w : Compilation)

@@ -47,16 +47,14 @@ only atom rule r symbols m free spaced f = by_begun (fits grammar known atom r.p
           | inr b ↦ b
         ] in
         let both = and_parts (can_end known r.parts) (fits grammar known atom symbols) past in
-        let not_begun : has (known.begins rule) atom ≡ false =
-        false_from_ne_true (has (known.begins rule) atom) (λ b.
+        let not_begun : has (known.begins rule) atom ≡ false = false_from_ne_true (has (known.begins rule) atom) (λ b.
         both_ways (has r.unless atom) free (unless_of_both grammar known atom rule r sound.preferred both.0 b (spaced.0 atom both.1))) in
         let counted = empty_counts known (grammar.rows_of rule) r m both.0 in
         let empty : known.is_empty rule ≡ true = by_empty (known.is_empty rule) (omega (arith, counted, of_rule.empties)) in
         record {
           fits_here = or_right (has (known.begins rule) atom) (known.is_empty rule && fits grammar known atom symbols)
               (and_from (known.is_empty rule) (fits grammar known atom symbols) empty both.1);
-          is =
-              none_chooses_other grammar known atom (empty_row known (grammar.rows_of rule)) (grammar.rows_of rule)
+          is = none_chooses_other grammar known atom (empty_row known (grammar.rows_of rule)) (grammar.rows_of rule)
               (ap (λ s. has s atom) of_rule.whole ∙ not_begun)
               ∙ empty_is_chosen known (grammar.rows_of rule) r m both.0
               (omega (arith, of_rule.empties, cond-true {A = ℕ} (known.is_empty rule) 1 0 empty));

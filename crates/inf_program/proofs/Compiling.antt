@@ -56,8 +56,7 @@ headline_written result sources o serial name before after was now c =
 pub begins_written : (result : Result Status Fault) (sources : Sources) (o : Choices) (serial name : List ℕ)
     (before after : Option (List ℕ)) → OnErr result (TurnsBegin sources o serial name before after)
     → OnErr result (Begins sources o serial name before after)
-begins_written result sources o serial name before after b =
-    on_err_weaker result (begins sources o serial name before after) b
+begins_written result sources o serial name before after b = on_err_weaker result (begins sources o serial name before after) b
 
 pub part_written : (result : Result Status Fault) (sources : Sources) (o : Choices) (serial name : List ℕ)
     (before after was now : Option (List ℕ))

@@ -61,14 +61,12 @@ abbrev with_messages : List ℕ → Outcome
 with_messages lines = record { messages = lines; story = None; status = Status.Errors }
 
 refused_over : (r : Reported) → IsOver r → refused r ≡ with_messages r.lines
-refused_over r over =
-    ap (λ (b : Bool). with_messages (r.lines ++ (if b then [] else closing r.counts.errors r.counts.warnings))) over
+refused_over r over = ap (λ (b : Bool). with_messages (r.lines ++ (if b then [] else closing r.counts.errors r.counts.warnings))) over
     ∙ ap with_messages (append-nil r.lines)
 
 begun_over : (serial : List ℕ) (w : Compilation) (files : FileNames) (o : Out) (r : Reported) (main : Option ℕ) → IsOver r
     → outcome_begun (told_of serial w) files o r main ≡ with_messages r.lines
-begun_over serial w files o r None over =
-    ap refused (error_stays (first_line files) (first_line files) NoMain r over) ∙ refused_over r over
+begun_over serial w files o r None over = ap refused (error_stays (first_line files) (first_line files) NoMain r over) ∙ refused_over r over
 begun_over serial w files o r (Some main) over =
     ap (λ (b : Bool). if not b && (r.counts.errors == 0) then laid (told_of serial w) files main o r else refused r) over ∙ refused_over r over
 
@@ -87,8 +85,7 @@ finished_over limits serial files w over =
 
 supplied_over : (limits : Limits) (o : Choices) (left n : ℕ) (s : State) → IsOver s.work.report → supplied_by limits o left n s ≡ s
 supplied_over limits o zero n s over = refl
-supplied_over limits o (suc left) n s over =
-    ap (λ (b : Bool). if b then s else supplied_by limits o left (suc n)
+supplied_over limits o (suc left) n s over = ap (λ (b : Bool). if b then s else supplied_by limits o left (suc n)
     (if is_wanted (suc n) s.work.output.names then text_read limits o (suc n) s else s)) over
 
 abbrev ended_with : Limits → List ℕ → State → Outcome
@@ -97,15 +94,13 @@ ended_with limits serial v =
 
 ending_over : (limits : Limits) (o : Choices) (serial : List ℕ) (s : State) → IsOver s.work.report
     → ending_of limits o serial s ≡ with_messages (s.told ++ s.work.report.lines)
-ending_over limits o serial s over =
-    ap (ended_with limits serial) (supplied_over limits o (most_texts - s.passed) s.passed s over)
+ending_over limits o serial s over = ap (ended_with limits serial) (supplied_over limits o (most_texts - s.passed) s.passed s over)
     ∙ ap (λ (e : Outcome). record e { messages = s.told ++ e.messages }) (finished_over limits serial s.nesting.names s.work over)
 
 -- Writing the messages makes no difference where the report is over.
 pub ending_told : (limits : Limits) (o : Choices) (serial : List ℕ) (s : State) → s.work.report.counts.is_over ≡ true
     → ending_of limits o serial (told_out s) ≡ ending_of limits o serial s
-ending_told limits o serial s over =
-    ending_over limits o serial (told_out s) over
+ending_told limits o serial s over = ending_over limits o serial (told_out s) over
     ∙ (ap with_messages (append-nil (s.told ++ s.work.report.lines)) ∙ sym (ending_over limits o serial s over))
 
 -- Reading ends before the first token by a fatal message alone.

@@ -96,10 +96,8 @@ clear_row rule r m inner =
           | inr l ↦ either_past (outer rule) are_clear (grammar.rows_of rule) (rows_past rule l)
         ]
 
-last_row : (rule : ℕ) (r : Row Action) → IsOneOf r (grammar.rows_of rule) → (nat_le 1 rule && outer rule) ≡ true
-    → ends_last r.parts ≡ true
-last_row rule r m piece =
-    row_of_all ends_last (grammar.rows_of rule) r m
+last_row : (rule : ℕ) (r : Row Action) → IsOneOf r (grammar.rows_of rule) → (nat_le 1 rule && outer rule) ≡ true → ends_last r.parts ≡ true
+last_row rule r m piece = row_of_all ends_last (grammar.rows_of rule) r m
     (second_holds (not (nat_le 1 rule && outer rule)) (all_rows ends_last (grammar.rows_of rule)) (ap not piece) kept)
   where
     kept : pieces_last rule ≡ true
@@ -132,8 +130,7 @@ row_last rule r symbols m false inner last = last_behind r.parts symbols (clear_
 row_last rule r [] m true piece last =
     let both = and_parts (nat_le 1 rule) true last in
     ap ends_last (append-nil r.parts) ∙ last_row rule r m (and_from (nat_le 1 rule) (outer rule) both.0 piece)
-row_last rule r (s ∷ symbols) m true piece last =
-    absurd (true≢false (sym (and_parts (nat_le 1 rule) false last).1))
+row_last rule r (s ∷ symbols) m true piece last = absurd (true≢false (sym (and_parts (nat_le 1 rule) false last).1))
 
 -- Lemmas about tokens
 
@@ -179,10 +176,7 @@ taking (token f l) spaced = record {
 }
 taking {atom} (action {a} {symbols} l) spaced =
     let on : Taking atom symbols = taking l spaced in
-    record {
-      fits_here = on.fits_here;
-      lasts = λ last. act_lasts a atom symbols (ends_directive a) refl last on.fits_here on.lasts;
-    }
+    record { fits_here = on.fits_here; lasts = λ last. act_lasts a atom symbols (ends_directive a) refl last on.fits_here on.lasts }
 taking {atom} (row {rule} {r} {symbols} m free l) spaced =
     let on : Taking atom (r.parts ++ symbols) = taking l (spaced_choice grammar known language_is_decided rule r symbols m spaced) in
     let one = only atom rule r symbols m free spaced on.fits_here in

@@ -95,12 +95,7 @@ first_token atom symbols atoms course left d spaced =
     let f : First atom symbols atoms (course_of d.leads) left = first_by d.leads spaced in
     record {
       fits_here = f.fits_here;
-      ahead = record {
-        rest = f.ahead.rest;
-        derives = f.ahead.derives;
-        events = f.ahead.events;
-        ends = sym d.are_ends ∙ f.ahead.ends;
-      };
+      ahead = record { rest = f.ahead.rest; derives = f.ahead.derives; events = f.ahead.events; ends = sym d.are_ends ∙ f.ahead.ends };
     }
 
 -- The reading stands within a piece: its tokens so far were taken, and this number of statements is over behind them. The rest of it leads

@@ -55,6 +55,5 @@ outcomes_are_those_of_programs sources o serial name source e there going = (onw
         }
 
     back : IsOutcomeOfProgram sources o serial name e → IsOutcome sources o serial name e
-    back w =
-        subst (λ (x : Outcome). IsOutcome sources o serial name x) (sym w.is_ending)
+    back w = subst (λ (x : Outcome). IsOutcome sources o serial name x) (sym w.is_ending)
         (programs_have_their_outcome sources o serial name source w.final w.end there going w.is_program w.are_supplied)

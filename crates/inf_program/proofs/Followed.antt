@@ -21,8 +21,7 @@ use Rattle.inf_program.proofs.States.{Moves, if_moves, nothing_moves, telling_mo
 
 all_lone_add : (files : FileNames) (open_ones : List Conditional) → Adds (with_all_lone files open_ones)
 all_lone_add files [] = nothing_adds
-all_lone_add files (c ∷ cs) =
-    then_adds (with_lone files c.place) (with_all_lone files cs) (lone_adds files c.place) (all_lone_add files cs)
+all_lone_add files (c ∷ cs) = then_adds (with_lone files c.place) (with_all_lone files cs) (lone_adds files c.place) (all_lone_add files cs)
 
 piece_adds : (files : FileNames) (c : Conditions) → Adds (piece_told files c)
 piece_adds files c = all_lone_add files (reverse c.inner)
@@ -38,8 +37,7 @@ abbrev file_end_told : State → State
 file_end_told s = record s { work = record s.work { report = file_told s.nesting.names s.conditions s.work.report } }
 
 file_end_moves : Moves file_end_told
-file_end_moves =
-    telling_moves (λ (s : State). file_told s.nesting.names s.conditions) (λ lines told s. refl)
+file_end_moves = telling_moves (λ (s : State). file_told s.nesting.names s.conditions) (λ lines told s. refl)
     (λ s. file_adds s.nesting.names s.conditions)
 
 -- no conditional of the file is open
@@ -57,15 +55,13 @@ left_by_moves [] = nothing_moves
 left_by_moves (w ∷ waiting) = record { moves = λ lines told s. refl }
 
 left_moves : Moves left
-left_moves =
-    with_moves (λ (s : State). s.nesting.waiting) (λ (waiting : List Waiting) (s : State). left_by waiting (file_closed s))
+left_moves = with_moves (λ (s : State). s.nesting.waiting) (λ (waiting : List Waiting) (s : State). left_by waiting (file_closed s))
     (λ lines told s. refl) (λ waiting. then_moves file_closed (left_by waiting) closed_moves (left_by_moves waiting))
 
 -- Lemmas about inclusions
 
 refused_moves : (unit : Place) (m : Message) → Moves (refused_with unit m)
-refused_moves unit m =
-    telling_moves (λ (s : State). with_fatal (location s.nesting.names unit) m) (λ lines told s. refl)
+refused_moves unit m = telling_moves (λ (s : State). with_fatal (location s.nesting.names unit) m) (λ lines told s. refl)
     (λ s. fatal_adds (location s.nesting.names unit) m)
 
 none_moves : (unit : Place) (text : List ℕ) (why : Included) → Moves (none_included unit text why)
@@ -125,8 +121,7 @@ abbrev piece_end_told : State → State
 piece_end_told s = record s { work = record s.work { report = piece_told s.nesting.names s.conditions s.work.report } }
 
 piece_end_moves : Moves piece_end_told
-piece_end_moves =
-    telling_moves (λ (s : State). piece_told s.nesting.names s.conditions) (λ lines told s. refl)
+piece_end_moves = telling_moves (λ (s : State). piece_told s.nesting.names s.conditions) (λ lines told s. refl)
     (λ s. piece_adds s.nesting.names s.conditions)
 
 -- no conditional of the piece is open

@@ -126,8 +126,7 @@ more_events : (symbols : List (Symbol Action)) (atoms : List ℕ) (events : List
     → IsRest symbols → is_empty symbols ≡ false → are_over events ≡ false
 more_events symbols atoms (e ∷ events) text rest some = refl
 more_events symbols atoms [] text rest some =
-    let nothing : symbols ≡ [] =
-    none_left symbols (subst (λ (xs : List ℕ). IsText grammar symbols xs []) (no_atoms text) text) rest in
+    let nothing : symbols ≡ [] = none_left symbols (subst (λ (xs : List ℕ). IsText grammar symbols xs []) (no_atoms text) text) rest in
     absurd (true≢false (ap is_empty (sym nothing) ∙ some))
 
 and_false : (b : Bool) → (b && false) ≡ false
@@ -190,8 +189,7 @@ forward limits sources o (suc n) m q further left all s going =
     let kept : AllKept (steps_at limits o within m.state) =
     subst (λ (steps : List Step). AllKept steps) same (kept_of limits (context_of o q2) a (stand_of q2) all.0.are_fit) in
     let is : IsOpen left m = is_open_at m x (kept_atoms (a ++ b) ++ further) left s all.0.is_quiet going some in
-    let w : Forward limits sources o n m2 q2 further left =
-    forward limits sources o n m2 q2 further left all.1
+    let w : Forward limits sources o n m2 q2 further left = forward limits sources o n m2 q2 further left all.1
     (subst (λ (y : State). IsAt rest left m2 (stepped limits o y)) (sym plain)
     (next_is_at limits sources o m x rest left at is kept))
     (ap (λ (y : State). y.is_over) plain ∙ going) in

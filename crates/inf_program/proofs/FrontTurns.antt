@@ -51,8 +51,7 @@ begun_steps limits context m t rest s no_end = ap (steps_by limits context rest)
 pub first_steps : (limits : Limits) (sources : Sources) (o : Choices) (s : State) → s.reading ≡ between Recovery.Reads →
     FirstKept limits o s
     → stand_of (stepped limits o s) ≡ steps_by limits (context_of o s) (steps_at limits o at_front s) (piece_start s)
-first_steps limits sources o s fresh b =
-    front_steps limits sources o s fresh
+first_steps limits sources o s fresh b = front_steps limits sources o s fresh
     ∙ subst (λ (steps : List Step). steps_by limits (context_of o s) steps (stand (between Recovery.Reads) s.work)
     ≡ steps_by limits (context_of o s) steps (piece_start s)) (sym b.steps)
     (begun_steps limits (context_of o s) b.effect b.token b.rest s b.is_no_end)
@@ -94,8 +93,7 @@ front_of limits sources o n s further events left f all l =
     let derives : Derives (Symbol.Rule piece_rule ∷ []) (kept_atoms a ++ (kept_atoms b ++ further)) course left =
     record { leads = w.leads; are_ends = refl } in
     let start : PieceState = begun_piece limits o course s in
-    let z : Forward limits sources o n start s further left =
-    forward limits sources o n start s further left all
+    let z : Forward limits sources o n start s further left = forward limits sources o n start s further left all
     (begun_is_at limits sources o s course (kept_atoms b ++ further) left f.is_fresh f.begins kept derives)
     (not_over s f.is_going) in
     record {
@@ -121,8 +119,7 @@ pub whole_next : (limits : Limits) (sources : Sources) (o : Choices) (n : ℕ) (
     → Next limits sources o s (followed sources o (stepped limits o (side_turned limits sources o n s)))
 whole_next limits sources o n s first all reading =
     let z : State = stepped limits o (side_turned limits sources o n s) in
-    let f : IsFront limits sources o n s [] [] =
-    front_of limits sources o n s [] [] [] first all
+    let f : IsFront limits sources o n s [] [] = front_of limits sources o n s [] [] [] first all
     (subst (λ (r : Reading). Leads grammar r.stack [] [] []) (sym reading) here) in
     Piece f.front f.is_further f.is_left (ap (followed sources o) (whole_is (reached f.front) z f.at_end))
 
@@ -172,8 +169,7 @@ hands_on limits o m z left before given after s some steps fit more out skip =
     subst (λ (x : Context). is_empty (steps_by limits x before (stand_of z)).reading.stack ≡ false) same more in
     let out2 : Misfits given y.reading.stack =
     subst (λ (x : Context). Misfits given (steps_by limits x before (stand_of z)).reading.stack) same out in
-    let skip2 : AllSkipped after (mode_behind (skip_of y.reading.stack) (token_in given).kind) =
-    subst (λ (x : Context). AllSkipped after
+    let skip2 : AllSkipped after (mode_behind (skip_of y.reading.stack) (token_in given).kind) = subst (λ (x : Context). AllSkipped after
     (mode_behind (skip_of (steps_by limits x before (stand_of z)).reading.stack) (token_in given).kind)) same skip in
     record {
       steps = sym (same_steps limits o m z (kept_atoms before ++ []) left s some) ∙ steps;

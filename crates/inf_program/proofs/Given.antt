@@ -118,8 +118,7 @@ sign_handed : (texts : List Text) (w : Option ConditionalWord) (place : Place) (
     → Handed (behind_sign w place declared o t (record s { texts = texts })).given
 sign_handed texts (Some w) place declared o t s = begun_handed w t place true (record s { sign = None; texts = texts })
 sign_handed [] None place declared o t s = alone_handed (Kept (hash place)) declared o t (record s { sign = None }) refl
-sign_handed (Sign begins ∷ texts) None place declared o t s =
-    alone_handed (Unfit (hash place)) declared o t (record s { sign = None }) refl
+sign_handed (Sign begins ∷ texts) None place declared o t s = alone_handed (Unfit (hash place)) declared o t (record s { sign = None }) refl
 sign_handed (Ended begins ∷ texts) None place declared o t s =
     alone_handed (Unfit (hash place)) declared o t (record s { sign = None }) refl
 sign_handed (Directive begins is_inner w first others ∷ texts) None place declared o t s =

@@ -68,13 +68,11 @@ step_inside limits context t r w reads inside =
 
 pub step_fit : (limits : Limits) (context : Context) (t : SourceToken) (r : Reading) (w : Compilation) → IsFit t r
     → step limits context t r w ≡ took limits context t r w
-step_fit limits context t r w fit =
-    step_inside limits context t r w fit.reads fit.is_inside ∙ judged_fit limits context t r w fit.is_fit
+step_fit limits context t r w fit = step_inside limits context t r w fit.reads fit.is_inside ∙ judged_fit limits context t r w fit.is_fit
 
 step_bad : (limits : Limits) (context : Context) (t : SourceToken) (s : ReaderState) → IsUnfit t s.reading
     → step_by limits context (Reads (Kept t)) s ≡ bad limits context t s.reading s.work
-step_bad limits context t s unfit =
-    step_inside limits context t s.reading s.work unfit.reads unfit.is_inside
+step_bad limits context t s unfit = step_inside limits context t s.reading s.work unfit.reads unfit.is_inside
     ∙ judged_unfit limits context t s.reading s.work unfit.is_unfit
 
 -- Lemmas about tokens that are passed over
@@ -96,8 +94,7 @@ unfit_skipped limits Recovery.Ended context t s skip = absurd (true≢false (sym
 step_skipped : (limits : Limits) (context : Context) (g : Given) (s : ReaderState) → skips s.reading.mode ≡ true
     → (step_by limits context (Reads g) s).work ≡ s.work
 step_skipped limits context (Kept t) s skip = kept_skipped limits s.reading.mode context t s.reading s.work skip
-step_skipped limits context (Unfit t) s skip =
-    ap (λ (x : ReaderState). x.work) (unfit_skipped limits s.reading.mode context t s skip)
+step_skipped limits context (Unfit t) s skip = ap (λ (x : ReaderState). x.work) (unfit_skipped limits s.reading.mode context t s skip)
     ∙ kept_skipped limits s.reading.mode context t s.reading s.work skip
 
 -- Lemmas about steps one by one
@@ -107,8 +104,7 @@ pub steps_are_taken : (limits : Limits) (context : Context) (steps : List Step) 
     (steps_by limits context steps s).work
     ≡ all_taken limits context g.seen s.reading.stack (directed limits g.directive (closings s.reading.stack) (passed g.behind s.work))
 steps_are_taken limits context [] s fit = refl
-steps_are_taken limits context (Passes m ∷ steps) s fit =
-    steps_are_taken limits context steps (step_by limits context (Passes m) s) fit
+steps_are_taken limits context (Passes m ∷ steps) s fit = steps_are_taken limits context steps (step_by limits context (Passes m) s) fit
 steps_are_taken limits context (Ends m ∷ steps) s fit =
     let g = grouped steps in
     steps_are_taken limits context steps (step_by limits context (Ends m) s) fit

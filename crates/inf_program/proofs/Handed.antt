@@ -41,9 +41,7 @@ unfit_lead limits _ context t = record { leads = λ lines s. (step_reads limits 
 
 handed_lead : (limits : Limits) (h : Forwarded) (context : Context) (t : SourceToken) → Leads (handed_as limits h context t)
 handed_lead limits Forwarded.Kept context t = record { leads = λ lines s. (step_reads limits context t s.reading).reads lines s.work }
-handed_lead limits Forwarded.Unfit context t = record {
-  leads = λ lines s. (unfit_lead limits s.reading.mode context t).leads lines s;
-}
+handed_lead limits Forwarded.Unfit context t = record { leads = λ lines s. (unfit_lead limits s.reading.mode context t).leads lines s }
 handed_lead limits Forwarded.Condition context t = nothing_lead
 
 sign_lead : (limits : Limits) (sign : Option Sign) (context : Context) → Leads (sign_taken limits sign context)
@@ -88,8 +86,7 @@ lone_adds files place = error_adds (location files place) (location files place)
 
 lone_lead : (place : Option Place) (context : Context) → Leads (lone_told place context)
 lone_lead None context = nothing_lead
-lone_lead (Some place) context =
-    work_lead (λ (w : Compilation). record w { report = with_lone context.names place w.report })
+lone_lead (Some place) context = work_lead (λ (w : Compilation). record w { report = with_lone context.names place w.report })
     (told_grows (with_lone context.names place) (lone_adds context.names place))
 
 -- Lemmas about ends of conditional directives
@@ -122,8 +119,7 @@ abbrev ended_at : Limits → FileNames → Place → ℕ → Compilation → Com
 ended_at limits files place count w = begun_at limits files place (closed_ahead limits count w)
 
 ended_at_grows : (limits : Limits) (files : FileNames) (place : Place) (count : ℕ) → Grows (ended_at limits files place count)
-ended_at_grows limits files place count =
-    then_grows (closed_ahead limits count) (begun_at limits files place) (ahead_grows limits count)
+ended_at_grows limits files place count = then_grows (closed_ahead limits count) (begun_at limits files place) (ahead_grows limits count)
     (begun_at_grows limits files place)
 
 ended_lead : (limits : Limits) (place : Option Place) (context : Context) → Leads (unit_ended limits place context)
@@ -136,8 +132,7 @@ ended_lead limits (Some place) context = record {
 -- Lemmas about tokens among conditionals
 
 pub judged_lead : (limits : Limits) (context : Context) (t : SourceToken) (j : Filtered) → Leads (judged_taken limits context t j)
-judged_lead limits context t j =
-    then_lead
+judged_lead limits context t j = then_lead
     (λ (s : ReaderState). lone_told j.unmatched context (token_taken limits j.token context t (sign_taken limits j.sign context s)))
     (unit_ended limits j.ended context)
     (then_lead (λ (s : ReaderState). token_taken limits j.token context t (sign_taken limits j.sign context s))

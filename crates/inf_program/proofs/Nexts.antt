@@ -96,8 +96,7 @@ broken_done : (limits : Limits) (sources : Sources) (o : Choices) (s t : State) 
 broken_done limits sources o s t fresh going f over leads =
     let m : PieceState = reached f in
     let w : Walked limits sources o f.further f.left m s = front_walked limits sources o s f fresh going in
-    let is_over : w.now.work.report.counts.is_over ≡ true =
-    ap (λ (q : State). q.work.report.counts.is_over) (sym w.is_at.same) ∙ over in
+    let is_over : w.now.work.report.counts.is_over ≡ true = ap (λ (q : State). q.work.report.counts.is_over) (sym w.is_at.same) ∙ over in
     record {
       now = w.now;
       comes = comes_then limits sources o s (followed sources o w.now) w.now w.comes

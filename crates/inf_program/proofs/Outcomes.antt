@@ -33,8 +33,7 @@ run_flushed limits sources o (suc n) s e =
 end_flushed : (limits : Limits) (sources : Sources) (o : Choices) (n : ℕ) (s : TurnState) → has_ended s ≡ false
     → has_ended (run limits sources o n s) ≡ true → (run limits sources o n s).work.report.lines ≡ []
 end_flushed limits sources o zero s going e = absurd (true≢false (sym e ∙ going))
-end_flushed limits sources o (suc n) s going e =
-    ap (λ (x : TurnState). x.work.report.lines) (run_going limits sources o n s going)
+end_flushed limits sources o (suc n) s going e = ap (λ (x : TurnState). x.work.report.lines) (run_going limits sources o n s going)
     ∙ run_flushed limits sources o n (turn limits sources o s) refl
 
 -- the state with these lines still to be written, behind those that were
@@ -43,8 +42,7 @@ written_as lines told s = record s { work = record s.work { report = record s.wo
 
 -- where all lines were written, they are those that are written at once
 written_at_once : (s : TurnState) → s.work.report.lines ≡ [] → told_out (unwritten s) ≡ s
-written_at_once s e =
-    ap (λ (lines : List ℕ). written_as [] (s.told ++ lines) s) e
+written_at_once s e = ap (λ (lines : List ℕ). written_as [] (s.told ++ lines) s) e
     ∙ (ap (λ (told : List ℕ). written_as [] told s) (append-nil s.told) ∙ ap (λ (lines : List ℕ). written_as lines s.told s) (sym e))
 
 -- Lemmas about outcomes
@@ -70,8 +68,7 @@ compiled_by sources o serial name final end going r supplied =
     let x : State = side_run limits sources o r.turns (start_by sources o name) in
     let y : TurnState = run limits sources o r.turns s in
     let a : Ran (turn_run limits sources o r.turns s) x = source_ran limits sources o name r.turns in
-    let silent : unwritten y ≡ with_conditions a.conditions a.quoted x =
-    (lines_are_written_at_any_time limits).all sources o r.turns s
+    let silent : unwritten y ≡ with_conditions a.conditions a.quoted x = (lines_are_written_at_any_time limits).all sources o r.turns s
     ∙ (ap (turn_run limits sources o r.turns) (unwritten_same s refl) ∙ a.same) in
     let ends : has_ended y ≡ true = ap has_ended silent ∙ r.ends in
     let written : told_out (unwritten y) ≡ y = written_at_once y (end_flushed limits sources o r.turns s going ends) in

@@ -51,8 +51,7 @@ complained limits context t w =
     record c { report = with_complaint (location context.names t.place) (complaint_of t) c.report }
 
 complained_grows : (limits : Limits) (context : Context) (t : SourceToken) → Grows (complained limits context t)
-complained_grows limits context t =
-    then_grows (cut_at limits context t.place)
+complained_grows limits context t = then_grows (cut_at limits context t.place)
     (λ (w : Compilation). record w { report = with_complaint (location context.names t.place) (complaint_of t) w.report })
     (cut_at_grows limits context t.place)
     (told_grows (with_complaint (location context.names t.place) (complaint_of t))
@@ -86,42 +85,35 @@ all_acted_grows limits context place actions =
 abbrev fitted : Limits → Context → SourceToken → List Action → Compilation → Compilation
 fitted limits context t actions w = work_took context t (all_acted limits context t.place actions w)
 
-fitted_grows : (limits : Limits) (context : Context) (t : SourceToken) (actions : List Action)
-    → Grows (fitted limits context t actions)
+fitted_grows : (limits : Limits) (context : Context) (t : SourceToken) (actions : List Action) → Grows (fitted limits context t actions)
 fitted_grows limits context t actions =
     then_grows (all_acted limits context t.place actions) (work_took context t) (all_acted_grows limits context t.place actions)
     (took_grows context t)
 
 took_reads : (limits : Limits) (context : Context) (t : SourceToken) (r : Reading) → Reads (took limits context t r)
-took_reads limits context t r =
-    stands (record { mode = r.mode; stack = (taken grammar known (atom_of t) r.stack).left })
+took_reads limits context t r = stands (record { mode = r.mode; stack = (taken grammar known (atom_of t) r.stack).left })
     (fitted limits context t (taken grammar known (atom_of t) r.stack).actions)
     (fitted_grows limits context t (taken grammar known (atom_of t) r.stack).actions)
 
 -- Lemmas about any token
 
 judged_reads : (limits : Limits) (context : Context) (t : SourceToken) (r : Reading) → Reads (judged limits context t r)
-judged_reads limits context t r =
-    either_reads (fits grammar known (atom_of t) r.stack) (took limits context t r) (bad limits context t r)
+judged_reads limits context t r = either_reads (fits grammar known (atom_of t) r.stack) (took limits context t r) (bad limits context t r)
     (took_reads limits context t r) (bad_reads limits context t r)
 
 -- a token of a new piece
 new_reads : (limits : Limits) (context : Context) (t : SourceToken) (r : Reading)
     → Reads (λ w. judged limits context t (piece_begun r) (work_begun w))
-new_reads limits context t r = record {
-  reads = λ lines w. (judged_reads limits context t (piece_begun r)).reads lines (work_begun w);
-}
+new_reads limits context t r = record { reads = λ lines w. (judged_reads limits context t (piece_begun r)).reads lines (work_begun w) }
 
 read_at_reads : (limits : Limits) (context : Context) (t : SourceToken) (stack : List (Symbol Action)) (r : Reading)
     → Reads (read_at limits context t stack r)
-read_at_reads limits context t [] r =
-    either_reads (is_end t.kind) (standing (record r { mode = Recovery.Ended }))
+read_at_reads limits context t [] r = either_reads (is_end t.kind) (standing (record r { mode = Recovery.Ended }))
     (λ (w : Compilation). judged limits context t (piece_begun r) (work_begun w))
     (stands (record r { mode = Recovery.Ended }) (λ w. w) nothing_grows) (new_reads limits context t r)
 read_at_reads limits context t (symbol ∷ symbols) r = judged_reads limits context t r
 
-step_in_reads : (limits : Limits) (m : Recovery) (context : Context) (t : SourceToken) (r : Reading)
-    → Reads (step_in limits m context t r)
+step_in_reads : (limits : Limits) (m : Recovery) (context : Context) (t : SourceToken) (r : Reading) → Reads (step_in limits m context t r)
 step_in_reads limits Recovery.Reads context t r = read_at_reads limits context t r.stack r
 step_in_reads limits Recovery.SkipsRoutine context t r =
     stands (record r { mode = passed Recovery.SkipsRoutine t.kind }) (λ w. w) nothing_grows

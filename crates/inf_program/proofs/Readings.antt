@@ -40,8 +40,7 @@ fit_on : (limits : Limits) (sources : Sources) (o : Choices) (k : ℕ) → Searc
     → (m : Between) (given : Given) (rest : List Step) → steps_at limits o at_front s ≡ Passes m ∷ Reads given ∷ rest → IsNoEnd given
     → AllFit limits (context_of o s) (steps_at limits o at_front s) (piece_start s) → AllKept (steps_at limits o at_front s)
     → HasProgram limits sources o s
-fit_on limits sources o k search s g m (Unfit t) rest steps no_end fit kept =
-    absurd (subst (λ (xs : List Step). AllKept xs) steps kept)
+fit_on limits sources o k search s g m (Unfit t) rest steps no_end fit kept = absurd (subst (λ (xs : List Step). AllKept xs) steps kept)
 fit_on limits sources o k search s g m (Kept t) rest steps no_end fit kept =
     let first : FirstFit limits o s = record {
       begins = record { effect = m; token = t; rest = rest; steps = steps; is_no_end = no_end };
@@ -96,8 +95,7 @@ one_on : (limits : Limits) (sources : Sources) (o : Choices) (k : ℕ) → All l
     → (m : Between) (t : SourceToken) (rest : List Step) → steps_at limits o at_front s ≡ Passes m ∷ Reads (Kept t) ∷ rest
     → NoneGiven rest → Sorted limits (context_of o s) (steps_at limits o at_front s) (piece_start s) → (b : Bool) → is_end t.kind ≡ b
     → HasProgram limits sources o s
-one_on limits sources o k all s g m t rest steps free sort true is_the_end =
-    end_on limits sources o k all.main s g
+one_on limits sources o k all s g m t rest steps free sort true is_the_end = end_on limits sources o k all.main s g
     (record { effect = m; token = t; rest = rest; steps = steps; is_the_end = is_the_end; is_last = free })
 one_on limits sources o k all s g m t rest steps free sort false no_end =
     sort_on limits sources o k all.skip all.search s g m (Kept t) rest steps no_end sort
@@ -176,8 +174,4 @@ pub regular_readings_are_programs : (limits : Limits) → RegularReadingsAreProg
 regular_readings_are_programs limits sources o n s fresh regular ends =
     let p : HasProgram limits sources o s = (all_of limits sources o n).main s fresh regular ends in
     let e : EndsAs limits sources o p.0 s = turns_do_programs limits sources o p.0 s p.1 in
-    record {
-      final = p.0;
-      is_program = p.1;
-      same = ap afresh (same_end limits sources o n e.turns s ends e.ends) ∙ e.same;
-    }
+    record { final = p.0; is_program = p.1; same = ap afresh (same_end limits sources o n e.turns s ends e.ends) ∙ e.same }

@@ -103,8 +103,7 @@ not_between r e = by_mode r.mode e
     by_mode Recovery.SkipsDirective q = absurd (true≢false (sym q))
 
 rested_calm : (y : State) → Calm (stand_of y) → Calm (stand_of (rested y))
-rested_calm y c =
-    of_both (λ (x : State). Calm (stand_of x)) (has_ended y) y (cond (is_resting y) (piece_closed y) y) (λ _. c)
+rested_calm y c = of_both (λ (x : State). Calm (stand_of x)) (has_ended y) y (cond (is_resting y) (piece_closed y) y) (λ _. c)
     (λ _. of_both (λ (x : State). Calm (stand_of x)) (is_resting y) (piece_closed y) y
     (λ _. record { asks = c.asks; last = c.last; spaced = c.spaced }) (λ _. c))
 

@@ -74,11 +74,9 @@ still_skips Recovery.Ended e = absurd (true≢false (sym e))
 -- all tokens of a turn are passed over
 pub shape_skipped : (all : List Step) (skip : Recovery) → Shape all → skips skip ≡ true → AllSkipped all skip
 shape_skipped all skip (NoToken free) e = none_skipped all skip free
-shape_skipped all skip (OneToken m given rest is free) e =
-    subst (λ (steps : List Step). AllSkipped steps skip) (sym is)
+shape_skipped all skip (OneToken m given rest is free) e = subst (λ (steps : List Step). AllSkipped steps skip) (sym is)
     (e, none_skipped rest (mode_behind skip (token_in given).kind) free)
-shape_skipped all skip (TwoTokens m given next rest is is_hash free) e =
-    subst (λ (steps : List Step). AllSkipped steps skip) (sym is)
+shape_skipped all skip (TwoTokens m given next rest is is_hash free) e = subst (λ (steps : List Step). AllSkipped steps skip) (sym is)
     (e, two)
   where
     two : AllSkipped (Reads next ∷ rest) (mode_behind skip (token_in given).kind)
@@ -103,8 +101,7 @@ pub some_behind_hash : (tokens : List SourceToken) (h : SourceToken) (r : Readin
 some_behind_hash tokens h r at is_hash = by_stack r.stack refl
   where
     atoms : map atom_of (tokens ++ h ∷ []) ≡ map atom_of tokens ++ mark_atom Mark.Hash ∷ []
-    atoms =
-        map-append atom_of tokens (h ∷ [])
+    atoms = map-append atom_of tokens (h ∷ [])
         ∙ ap (λ (k : TokenKind). map atom_of tokens ++ atom_of_kind h.is_class k h.bytes ∷ []) is_hash
 
     by_stack : (symbols : List (Symbol Action)) → r.stack ≡ symbols → is_empty r.stack ≡ false
@@ -162,8 +159,7 @@ sort_two : (limits : Limits) (context : Context) (all : List Step) (s : ReaderSt
     → is_empty (behind_kept limits context m h s).reading.stack ≡ false
     → (b : Bool) → fits grammar known (atom_of (token_in next)) (behind_kept limits context m h s).reading.stack ≡ b
     → Sorted limits context all s
-sort_two limits context all s m h (Unfit t) rest is free fit reads some b e =
-    CutSecond m h (Unfit t) rest is fit some tt
+sort_two limits context all s m h (Unfit t) rest is free fit reads some b e = CutSecond m h (Unfit t) rest is fit some tt
     (none_skipped rest (mode_behind (skip_of (behind_kept limits context m h s).reading.stack) t.kind) free)
 sort_two limits context all s m h (Kept t) rest is free fit reads some true e =
     Fit (subst (λ (steps : List Step). AllFit limits context steps s) (sym is)
@@ -175,8 +171,7 @@ sort_two limits context all s m h (Kept t) rest is free fit reads some true e =
       record { reads = reads; is_inside = some; is_fit = e },
       none_fit limits context rest (step_by limits context (Reads (Kept t)) (behind_kept limits context m h s)) free,
     )
-sort_two limits context all s m h (Kept t) rest is free fit reads some false e =
-    CutSecond m h (Kept t) rest is fit some e
+sort_two limits context all s m h (Kept t) rest is free fit reads some false e = CutSecond m h (Kept t) rest is fit some e
     (none_skipped rest (mode_behind (skip_of (behind_kept limits context m h s).reading.stack) t.kind) free)
 
 -- a `#` that comes before another token

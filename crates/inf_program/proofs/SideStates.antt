@@ -57,8 +57,7 @@ none_alike [] = refl
 none_alike (x ∷ texts) = refl
 
 resting_alike : (c : Conditions) (q : ℕ) (s : State) → Agree c s.sides → turn_resting (with_conditions c q s) ≡ is_resting s
-resting_alike c q s a =
-    ap (λ b. is_between s.reading && b)
+resting_alike c q s a = ap (λ b. is_between s.reading && b)
     (ap (λ (pending : List Pending). is_none_pending pending) a.pending ∙ none_alike s.sides.texts)
 
 settled_of : (c : Conditions) (s : State) → (is_settled c ≡ true) ⊎ (is_resting s ≡ true) → is_resting s ≡ false → is_settled c ≡ true
@@ -87,8 +86,7 @@ going_rested q c s most going r true rests =
     let declared : ℕ = s.work.output.names.declared in
     let same : rested s ≡ piece_closed s =
     ap (λ b. if b then s else if is_resting s then piece_closed s else s) going ∙ ap (λ b. if b then piece_closed s else s) rests in
-    let closed : turn_rested t ≡ turn_piece_closed t =
-    ap (λ b. if b then t else if turn_resting t then turn_piece_closed t else t) going
+    let closed : turn_rested t ≡ turn_piece_closed t = ap (λ b. if b then t else if turn_resting t then turn_piece_closed t else t) going
     ∙ ap (λ b. if b then turn_piece_closed t else t) (resting_alike c q s r.agree ∙ rests) in
     let told : turn_piece_closed t ≡ with_conditions (conditions_ended declared c) q (piece_closed s) =
     ap (λ (report : Reported). with_conditions (conditions_ended declared c) q
@@ -136,8 +134,7 @@ rested_by q c s most ready false going = going_rested q c s most going (ready go
 -- the end of a directive behind what it asks for
 pub then_rested : (q : ℕ) (t : TurnState) (s : State) → Behind q t s (λ now. Ready now s)
     → Behind q (turn_rested t) (rested s) (λ now. Matches now (rested s))
-then_rested q t s b =
-    subst (λ (x : TurnState). Behind q (turn_rested x) (rested s) (λ now. Matches now (rested s))) (sym b.same)
+then_rested q t s b = subst (λ (x : TurnState). Behind q (turn_rested x) (rested s) (λ now. Matches now (rested s))) (sym b.same)
     (rested_by q b.now s b.most b.ready (has_ended s) refl)
 
 -- Lemmas for the case that no directive is being read, and no side is left out
@@ -160,8 +157,7 @@ open_ready c s i = record {
 }
 
 -- where other conditionals are open, conditionals and sides agree as before
-open_with : (c : Conditions) (s : State) (inner among : List Conditional) (sides : List Side) → IsOpen c s
-    → sides ≡ open_sides inner among
+open_with : (c : Conditions) (s : State) (inner among : List Conditional) (sides : List Side) → IsOpen c s → sides ≡ open_sides inner among
     → Agree (record c { inner = inner; among = among }) (record s.sides { sides = sides })
 open_with c s inner among sides i e = record {
   pending = i.agree.pending;
@@ -186,8 +182,7 @@ conditionals_back (x ∷ among) = ap (λ (xs : List Conditional). x ∷ xs) (con
 
 -- the conditionals of a file that waits for another
 waiting_alike : (c : Conditions) (s : State) → IsOpen c s → conditionals_of s.sides.sides ≡ c.among
-waiting_alike c s i =
-    ap conditionals_of (all_open c s i)
+waiting_alike c s i = ap conditionals_of (all_open c s i)
     ∙ (ap (λ (sides : List Side). map (λ (x : Side). record { place = x.place; is_second = x.is_second }) sides) (between_of c.inner c.among)
     ∙ conditionals_back c.among)
 
@@ -229,11 +224,9 @@ answered_alike : (a : Request) (sources : Sources) (o : Choices) (c : Conditions
     → IsOpen c s → Answered q (turn_answered a sources o (with_conditions c q s)) (answered a sources o s)
 answered_alike (Include text unit) sources o c q s most i =
     included_alike (inclusion sources o.directories text s.nesting) sources o unit text c q s most i
-answered_alike End sources o c q s most i =
-    opened_alike c q (answered End sources o s) most
+answered_alike End sources o c q s most i = opened_alike c q (answered End sources o s) most
     (record { agree = i.agree; declared = i.declared; none_said = i.none_said; none = i.none; stay = i.stay })
-answered_alike (Characters set) sources o c q s most i =
-    opened_alike c q (answered (Characters set) sources o s) most
+answered_alike (Characters set) sources o c q s most i = opened_alike c q (answered (Characters set) sources o s) most
     (record { agree = i.agree; declared = i.declared; none_said = i.none_said; none = i.none; stay = i.stay })
 answered_alike Nothing sources o c q s most i = opened_alike c q s most i
 
@@ -279,6 +272,5 @@ pub handed_alike : (sources : Sources) (o : Choices) (c : Conditions) (q : ℕ) 
 handed_alike sources o c q s most i true e =
     subst (λ (t : TurnState). Answered q (turn_left_by s.nesting.waiting t) (left s)) (sym (closed_alike c q s i))
     (left_alike s.nesting.waiting c q s most i e)
-handed_alike sources o c q s most i false e =
-    answered_alike s.work.asked sources o c q (asked_nothing s) most
+handed_alike sources o c q s most i false e = answered_alike s.work.asked sources o c q (asked_nothing s) most
     (record { agree = i.agree; declared = i.declared; none_said = i.none_said; none = i.none; stay = i.stay })

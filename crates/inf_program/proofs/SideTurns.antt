@@ -44,8 +44,7 @@ sign_steps : (limits : Limits) (files : FileNames) (sign : Option Sign)
 sign_steps limits files None = refl
 sign_steps limits files (Some sign) = by_way sign.handed sign.place
   where
-    by_way : (h : Forwarded) (place : Place)
-        → given_steps (given_sign (Some (record { place = place; handed = h })))
+    by_way : (h : Forwarded) (place : Place) → given_steps (given_sign (Some (record { place = place; handed = h })))
         ≡ steps_of_all limits files (sign_given (Some (record { place = place; handed = h })))
     by_way Forwarded.Kept place = refl
     by_way Forwarded.Unfit place = refl
@@ -226,8 +225,7 @@ still_ready c s y b p still = record {
     by_settled : (is_settled b.now ≡ true) ⊎ ((is_between s.reading ≡ true) × ((b.now.pending ≡ []) × HandsNone b.judged))
         → (is_settled (silent b.now) ≡ true) ⊎ (is_resting y ≡ true)
     by_settled (inl settled) = inl settled
-    by_settled (inr u) =
-        inr (both (is_between y.reading) (has_none y.sides.texts) (ap is_between still ∙ u.0)
+    by_settled (inr u) = inr (both (is_between y.reading) (has_none y.sides.texts) (ap is_between still ∙ u.0)
         (sym (none_alike y.sides.texts) ∙ (ap is_none_pending (sym p.agree.pending) ∙ ap is_none_pending u.1.0)))
 
 asked_ready : (c : Conditions) (y : State) → Ready c y → Ready c (asked_nothing y)
@@ -250,14 +248,13 @@ gone_alike : (sources : Sources) (o : Choices) (q : ℕ) (c : Conditions) (s y :
     → let t = with_conditions (silent b.now) q y in
     Carried q (if is_mode_ended y.reading.mode then turn_left t else turn_answered y.work.asked sources o (turn_asked_nothing t))
     (if is_mode_ended y.reading.mode then left y else answered y.work.asked sources o (asked_nothing y))
-gone_alike sources o q c s y b p still reads (inl none) =
-    handed_alike sources o (silent b.now) q y p.most (record {
-      agree = agree_silent b.now y.sides p.agree;
-      declared = p.declared;
-      none_said = refl;
-      none = none.0;
-      stay = none.1;
-    }) (is_mode_ended y.reading.mode) refl
+gone_alike sources o q c s y b p still reads (inl none) = handed_alike sources o (silent b.now) q y p.most (record {
+  agree = agree_silent b.now y.sides p.agree;
+  declared = p.declared;
+  none_said = refl;
+  none = none.0;
+  stay = none.1;
+}) (is_mode_ended y.reading.mode) refl
 gone_alike sources o q c s y b p still reads (inr quiet) =
     let u : Still s y = still quiet in
     let t : TurnState = with_conditions (silent b.now) q y in
@@ -341,8 +338,7 @@ RunsAlike limits sources o n =
 run_by : (limits : Limits) (sources : Sources) (o : Choices) (n : ℕ) → RunsAlike limits sources o n → (c : Conditions) (q : ℕ) (s : State)
     → c.most_tokens ≡ s.most_tokens → (has_ended s ≡ false → Goes c s) → (b : Bool) → has_ended s ≡ b
     → Ran (turn_run limits sources o (suc n) (with_conditions c q s)) (side_run limits sources o (suc n) s)
-run_by limits sources o n later c q s most goes true over =
-    subst (λ (b : Bool). Ran
+run_by limits sources o n later c q s most goes true over = subst (λ (b : Bool). Ran
     (if b then with_conditions c q s else turn_run limits sources o n (turn_silent limits sources o (with_conditions c q s)))
     (if b then s else side_run limits sources o n (side_turn limits sources o s))) (sym over)
     (record { conditions = c; quoted = q; same = refl; most = most; goes = goes })
@@ -370,24 +366,15 @@ run_alike limits sources o (suc n) c q s most goes =
 
 pub source_ran : (limits : Limits) (sources : Sources) (o : Choices) (name : List ℕ) (n : ℕ)
     → Ran (turn_run limits sources o n (turn_start sources o name)) (side_run limits sources o n (start sources o name))
-source_ran limits sources o name n =
-    run_alike limits sources o n no_conditions 0 (start sources o name) refl (λ going. record {
-      of_file = refl;
-      matches = record {
-        agree = sides_are_judged.start;
-        declared = refl;
-        none_said = refl;
-        settled = refl;
-        seated = tt;
-        levels = tt;
-      };
-      calm = record { asks = refl; last = refl; spaced = tt };
-    })
+source_ran limits sources o name n = run_alike limits sources o n no_conditions 0 (start sources o name) refl (λ going. record {
+  of_file = refl;
+  matches = record { agree = sides_are_judged.start; declared = refl; none_said = refl; settled = refl; seated = tt; levels = tt };
+  calm = record { asks = refl; last = refl; spaced = tt };
+})
 
 given_alike : (o : Choices) (t : TurnState) (s : State) (r : Ran t s) → has_ended s ≡ false
     → given_of (token_of t) (judgement o t) ≡ heard (position_of s.reading).is_passed (step_at (position_of s.reading) s).given
-given_alike o t s r going =
-    subst (λ (x : TurnState). given_of (token_of x) (judgement o x)
+given_alike o t s r going = subst (λ (x : TurnState). given_of (token_of x) (judgement o x)
     ≡ heard (position_of s.reading).is_passed (step_at (position_of s.reading) s).given) (sym r.same)
     (taken_by (limits_of o.settings) o r.conditions s r.most (r.goes going).matches).given
 
@@ -397,8 +384,7 @@ still_alike : (limits : Limits) (sources : Sources) (o : Choices) (t : TurnState
 still_alike limits sources o t s r going none =
     let p : Position = position_of s.reading in
     let k = taken_by limits o r.conditions s r.most (r.goes going).matches in
-    let free : NoneGiven (side_steps limits o s) =
-    none_free limits s.nesting.names (heard p.is_passed (step_at p s).given)
+    let free : NoneGiven (side_steps limits o s) = none_free limits s.nesting.names (heard p.is_passed (step_at p s).given)
     (subst (λ (xs : List GivenBySides). NoneIn (heard p.is_passed xs)) (sym none) (nothing_heard p.is_passed)) in
     ap (λ (x : TurnState). (turn_stepped limits o x).reading) r.same
     ∙ (ap (λ (x : TurnState). x.reading) (stepped_alike limits sources o r.conditions r.quoted s k)

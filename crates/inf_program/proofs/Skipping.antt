@@ -83,8 +83,7 @@ skip_steps limits context (Passes m ∷ steps) skip w all = skip_steps limits co
 skip_steps limits context (Ends m ∷ steps) skip w all =
     ap (λ (v : Compilation). steps_by limits context steps (stand (between skip) (passed m v))) (not_ahead limits 0 w refl)
     ∙ skip_steps limits context steps skip (passed m w) all
-skip_steps limits context (Reads given ∷ steps) skip w all =
-    ap (steps_by limits context steps) (skip_one limits context given skip w all.0)
+skip_steps limits context (Reads given ∷ steps) skip w all = ap (steps_by limits context steps) (skip_one limits context given skip w all.0)
     ∙ skip_steps limits context steps (mode_behind skip (token_in given).kind) w all.1
 
 steps_joined : (limits : Limits) (context : Context) (a b : List Step) (s : ReaderState)
@@ -121,8 +120,7 @@ bad_behind limits sources o m x left before given after b s is =
     let here : position_of x.reading ≡ within = is_within m x (kept_atoms before ++ []) left s is in
     let start : Agrees (kept_atoms before ++ []) left (progress_of m) (stand_of x) =
     record { same = ap (λ (q : State). q.work) (sym s.same); inside = s.inside } in
-    let steps : stand_of (stepped limits o x) ≡ stand (between skip) w =
-    turn_steps limits sources o x within here
+    let steps : stand_of (stepped limits o x) ≡ stand (between skip) w = turn_steps limits sources o x within here
     ∙ (ap (λ (q : State). steps_by limits (context_of o q) (steps_at limits o within q) (stand_of x)) (sym s.same)
     ∙ (ap (λ (all : List Step). steps_by limits c all (stand_of x)) b.steps
     ∙ bad_steps limits c before given after [] left done (stand_of x)
@@ -155,8 +153,7 @@ alone_step : (limits : Limits) (context : Context) (m : Between) (given : Given)
     → step_by limits context (Reads given) (stand (between Recovery.Reads) (passed m w))
     ≡ stand (between (skip_from [] (token_in given))) (cut_by limits context (token_in given) (begun_by given (passed m w)))
 alone_step limits context m (Unfit t) w no_end wrong = refl
-alone_step limits context m (Kept t) w no_end wrong =
-    first_step limits context t m w no_end
+alone_step limits context m (Kept t) w no_end wrong = first_step limits context t m w no_end
     ∙ bad_step limits context (Kept t) [] (work_begun (passed m w)) (stand (piece_begun (between Recovery.Reads)) (work_begun (passed m w)))
     no_token refl refl wrong
 
@@ -231,14 +228,12 @@ skip_quiet limits o k on = record {
   is_not_over = on.is_not_over;
   has_more = skips_not_ended k.skip on.skips_more;
   asks_nothing = on.asks_nothing;
-  is_inside = ap (λ b. b && has_none k.state.sides.texts)
-      (ap (λ (p : Position). p.is_front) (position_skips k.skip on.skips_more));
+  is_inside = ap (λ b. b && has_none k.state.sides.texts) (ap (λ (p : Position). p.is_front) (position_skips k.skip on.skips_more));
 }
 
 pub skip_walked : (limits : Limits) (sources : Sources) (o : Choices) (n : ℕ) (k : SkipState) → AllSkipOn limits o n k
     → Comes limits sources o (followed sources o (lands k)) (followed sources o (lands (all_skipped limits o n k)))
-skip_walked limits sources o zero k all =
-    comes_same limits sources o (followed sources o (lands k)) (followed sources o (lands k)) refl
+skip_walked limits sources o zero k all = comes_same limits sources o (followed sources o (lands k)) (followed sources o (lands k)) refl
 skip_walked limits sources o (suc n) k all =
     let k2 : SkipState = skipped_on limits o k in
     let x : State = lands k in

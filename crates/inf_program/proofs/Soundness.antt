@@ -39,8 +39,7 @@ AsksAtEnds x = (is_between x.reading || is_mode_ended x.reading.mode) ≡ false 
 
 pub followed_reads : (sources : Sources) (o : Choices) (x : State) → x.reading ≡ between Recovery.Reads
     → (followed sources o x).reading ≡ between Recovery.Reads
-followed_reads sources o x reading =
-    rested_reading (handled sources o x)
+followed_reads sources o x reading = rested_reading (handled sources o x)
     ∙ (handled_reading sources o x (ap (λ (r : Reading). is_mode_ended r.mode) reading) ∙ reading)
 
 pub over_rested : (s : State) → has_ended s ≡ true → has_ended (rested s) ≡ true
@@ -60,8 +59,7 @@ left_on : (sources : Sources) (o : Choices) (x : State) (waiting : List Waiting)
     ⊎ ((rested (left_by waiting (file_closed x))).reading ≡ between Recovery.Reads)
 left_on sources o x [] reading =
     inl (over_rested (file_closed x) (mode_ended (file_closed x) (ap (λ (r : Reading). is_mode_ended r.mode) reading)))
-left_on sources o x (w ∷ waiting) reading =
-    inr (rested_reading (left_by (w ∷ waiting) (file_closed x))
+left_on sources o x (w ∷ waiting) reading = inr (rested_reading (left_by (w ∷ waiting) (file_closed x))
     ∙ ap (λ (r : Reading). record r { mode = Recovery.Reads }) reading)
 
 pub ended_on : (sources : Sources) (o : Choices) (x : State) → x.reading ≡ between Recovery.Ended → (b : Bool)
@@ -149,8 +147,7 @@ onward limits sources o k x quiet r =
 
 -- reading has not ended behind a turn behind which nothing else happens
 pub never_ends : (limits : Limits) (sources : Sources) (o : Choices) (x : State) → IsQuietBySide x → Regular limits sources o zero x → ⊥
-never_ends limits sources o x quiet r =
-    true≢false (sym r.ends ∙ (ap has_ended (followed_plainly sources o x quiet)
+never_ends limits sources o x quiet r = true≢false (sym r.ends ∙ (ap has_ended (followed_plainly sources o x quiet)
     ∙ goes_on x r.is_going quiet.is_not_over quiet.has_more))
 
 -- Lemmas about tokens that are passed over
@@ -196,8 +193,7 @@ skip_more limits sources o k later from x same skip quiet r =
       is_not_over = ap (λ (y : State). y.work.report.counts.is_over) (sym same) ∙ quiet.is_not_over;
       asks_nothing = subst (λ (y : State). AsksNothing y) same quiet.asks_nothing;
       skips_more = skip;
-      are_skipped = shape_skipped (steps_at limits o passed_over from.state) from.skip
-          (shape_at limits o passed_over from.state) skip;
+      are_skipped = shape_skipped (steps_at limits o passed_over from.state) from.skip (shape_at limits o passed_over from.state) skip;
     } in
     let w : SkipEnd limits sources o (skipped_on limits o from) =
     later (skipped_on limits o from) (stepped limits o x) (ap (stepped limits o) same ∙ skip_turn limits sources o from on)
@@ -217,11 +213,9 @@ skip_by : (limits : Limits) (sources : Sources) (o : Choices) (k : ℕ) → Main
     → SkipEnd limits sources o from)
     → (from : SkipState) (x : State) → x ≡ lands from → x.work.report.counts.is_over ≡ false → Regular limits sources o k x
     → (m : Recovery) → from.skip ≡ m → SkipEnd limits sources o from
-skip_by limits sources o k main more from x same over r Recovery.Reads is =
-    skip_done limits sources o from x same
+skip_by limits sources o k main more from x same over r Recovery.Reads is = skip_done limits sources o from x same
     (main (followed sources o x) (followed_reads sources o x (skip_reading from x Recovery.Reads same is)) r.turns r.ends)
-skip_by limits sources o k main more from x same over r Recovery.Ended is =
-    skip_done limits sources o from x same
+skip_by limits sources o k main more from x same over r Recovery.Ended is = skip_done limits sources o from x same
     (behind_end limits sources o k main x (ended_on sources o x (skip_reading from x Recovery.Ended same is) false over) r)
 skip_by limits sources o k main more from x same over r Recovery.SkipsRoutine is =
     more from x same (ap skips is) (skip_is_quiet from x same (ap skips is) over r.asks) r
@@ -233,11 +227,9 @@ pub skip_all : (limits : Limits) (sources : Sources) (o : Choices) (k : ℕ) →
     → SkipEnd limits sources o from)
     → (from : SkipState) (x : State) → x ≡ lands from → Regular limits sources o k x → (b : Bool)
     → x.work.report.counts.is_over ≡ b → SkipEnd limits sources o from
-skip_all limits sources o k main more from x same r true over =
-    skip_done limits sources o from x same
+skip_all limits sources o k main more from x same r true over = skip_done limits sources o from x same
     (followed sources o x, IsOver (ap has_ended (followed_over sources o x over) ∙ over_ends x over) refl)
-skip_all limits sources o k main more from x same r false over =
-    skip_by limits sources o k main more from x same over r from.skip refl
+skip_all limits sources o k main more from x same r false over = skip_by limits sources o k main more from x same over r from.skip refl
 
 -- Lemmas about fronts
 

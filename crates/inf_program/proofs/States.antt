@@ -18,9 +18,7 @@ pub nothing_moves : Moves (λ s. s)
 nothing_moves = record { moves = λ lines told s. refl }
 
 pub then_moves : (f g : State → State) → Moves f → Moves g → Moves (λ s. g (f s))
-then_moves f g first second = record {
-  moves = λ lines told s. ap g (first.moves lines told s) ∙ second.moves lines told (f s);
-}
+then_moves f g first second = record { moves = λ lines told s. ap g (first.moves lines told s) ∙ second.moves lines told (f s) }
 
 pub with_moves : {A : Type 0} (x : State → A) (f : A → State → State) → Stays x → ((a : A) → Moves (f a)) → Moves (λ s. f (x s) s)
 with_moves x f stays each = record {
@@ -43,7 +41,6 @@ with_report told r s = record s { work = record s.work { report = r }; told = to
 pub telling_moves : (tell : State → Reported → Reported) → Stays tell → ((s : State) → Adds (tell s))
     → Moves (λ s. record s { work = record s.work { report = tell s s.work.report } })
 telling_moves tell stays each = record {
-  moves = λ lines told s.
-      ap (λ (t : Reported → Reported). with_report told (t (told_before lines s.work.report)) s) (stays lines told s)
+  moves = λ lines told s. ap (λ (t : Reported → Reported). with_report told (t (told_before lines s.work.report)) s) (stays lines told s)
       ∙ ap (λ (r : Reported). with_report told r s) ((each s).adds lines s.work.report);
 }

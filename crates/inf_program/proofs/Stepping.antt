@@ -43,16 +43,14 @@ pub comes_then : (limits : Limits) (sources : Sources) (o : Choices) (s t u : St
     → Comes limits sources o t u → Comes limits sources o s u
 comes_then limits sources o s t u a b = record {
   turns = a.turns + b.turns;
-  leads = λ more.
-      ap (λ n. side_run limits sources o n s) (all_more a.turns b.turns more) ∙ (a.leads (b.turns + more) ∙ b.leads more);
+  leads = λ more. ap (λ n. side_run limits sources o n s) (all_more a.turns b.turns more) ∙ (a.leads (b.turns + more) ∙ b.leads more);
 }
 
 pub comes_next : (limits : Limits) (sources : Sources) (o : Choices) (s : State) → has_ended s ≡ false
     → Comes limits sources o s (side_turn limits sources o s)
 comes_next limits sources o s going = record {
   turns = 1;
-  leads = λ more.
-      ap (λ n. side_run limits sources o n s) (one_more more)
+  leads = λ more. ap (λ n. side_run limits sources o n s) (one_more more)
       ∙ ap (λ b. if b then s else side_run limits sources o more (side_turn limits sources o s)) going;
 }
 
@@ -75,8 +73,7 @@ over_ends s over = second_of_three s.is_over s.work.report.counts.is_over (is_mo
 
 -- Nothing else happens behind a token.
 
-answered_plainly : (asked : Request) (sources : Sources) (o : Choices) (s : State) → asked ≡ Nothing
-    → answered asked sources o s ≡ s
+answered_plainly : (asked : Request) (sources : Sources) (o : Choices) (s : State) → asked ≡ Nothing → answered asked sources o s ≡ s
 answered_plainly asked sources o s nothing = ap (λ a. answered a sources o s) nothing
 
 carried_plainly : (sources : Sources) (o : Choices) (s : State) → IsQuietBySide s → s.work.asked ≡ Nothing → carried_out sources o s ≡ s
@@ -88,8 +85,7 @@ carried_plainly sources o s quiet nothing =
     ∙ ap (λ (a : Request). record s { work = record s.work { asked = a } }) (sym nothing)))
 
 handled_plainly : (sources : Sources) (o : Choices) (s : State) → IsQuietBySide s → handled sources o s ≡ s
-handled_plainly sources o s quiet =
-    of_both (λ (x : State). x ≡ s) s.is_supplied s (carried_out sources o s) (λ _. refl)
+handled_plainly sources o s quiet = of_both (λ (x : State). x ≡ s) s.is_supplied s (carried_out sources o s) (λ _. refl)
     (λ of_file. carried_plainly sources o s quiet (quiet.asks_nothing of_file))
 
 either_state : (b : Bool) (s : State) → (if b then s else s) ≡ s
@@ -97,17 +93,14 @@ either_state true s = refl
 either_state false s = refl
 
 rested_plainly : (s : State) → is_resting s ≡ false → rested s ≡ s
-rested_plainly s inside =
-    ap (λ b. if has_ended s then s else if b then piece_closed s else s) inside ∙ either_state (has_ended s) s
+rested_plainly s inside = ap (λ b. if has_ended s then s else if b then piece_closed s else s) inside ∙ either_state (has_ended s) s
 
 pub followed_plainly : (sources : Sources) (o : Choices) (s : State) → IsQuietBySide s → followed sources o s ≡ s
 followed_plainly sources o s quiet = ap rested (handled_plainly sources o s quiet) ∙ rested_plainly s quiet.is_inside
 
 -- behind a fatal message nothing happens
 pub followed_over : (sources : Sources) (o : Choices) (s : State) → s.work.report.counts.is_over ≡ true → followed sources o s ≡ s
-followed_over sources o s over =
-    ap rested
-    (of_both (λ (x : State). x ≡ s) s.is_supplied s (carried_out sources o s) (λ _. refl)
+followed_over sources o s over = ap rested (of_both (λ (x : State). x ≡ s) s.is_supplied s (carried_out sources o s) (λ _. refl)
     (λ _. ap (λ b. if b then s else if is_mode_ended s.reading.mode then left s else answered s.work.asked sources o (asked_nothing s)) over))
     ∙ ap (λ b. if b then s else if is_resting s then piece_closed s else s) (over_ends s over)
 
@@ -128,8 +121,7 @@ answered_reading Nothing sources o s = refl
 
 carried_out_reading : (sources : Sources) (o : Choices) (s : State) → is_mode_ended s.reading.mode ≡ false
     → (carried_out sources o s).reading ≡ s.reading
-carried_out_reading sources o s going =
-    of_both (λ (x : State). x.reading ≡ s.reading) s.work.report.counts.is_over s
+carried_out_reading sources o s going = of_both (λ (x : State). x.reading ≡ s.reading) s.work.report.counts.is_over s
     (if is_mode_ended s.reading.mode then left s else answered s.work.asked sources o (asked_nothing s))
     (λ _. refl)
     (λ _. ap (λ b. (if b then left s else answered s.work.asked sources o (asked_nothing s)).reading) going
@@ -137,13 +129,11 @@ carried_out_reading sources o s going =
 
 pub handled_reading : (sources : Sources) (o : Choices) (s : State) → is_mode_ended s.reading.mode ≡ false
     → (handled sources o s).reading ≡ s.reading
-handled_reading sources o s going =
-    of_both (λ (x : State). x.reading ≡ s.reading) s.is_supplied s (carried_out sources o s) (λ _. refl)
+handled_reading sources o s going = of_both (λ (x : State). x.reading ≡ s.reading) s.is_supplied s (carried_out sources o s) (λ _. refl)
     (λ _. carried_out_reading sources o s going)
 
 pub rested_reading : (s : State) → (rested s).reading ≡ s.reading
-rested_reading s =
-    of_both (λ (x : State). x.reading ≡ s.reading) (has_ended s) s (if is_resting s then piece_closed s else s) (λ _. refl)
+rested_reading s = of_both (λ (x : State). x.reading ≡ s.reading) (has_ended s) s (if is_resting s then piece_closed s else s) (λ _. refl)
     (λ _. of_both (λ (x : State). x.reading ≡ s.reading) (is_resting s) (piece_closed s) s (λ _. refl) (λ _. refl))
 
 -- Behind a token of a file comes one of a file, and behind one of a supplied text another one of it.
@@ -160,15 +150,13 @@ included_supplied sources o unit text (OpensNone Included.NotThere) s = refl
 included_supplied sources o unit text (OpensNone Included.TooDeep) s = refl
 
 answered_supplied : (asked : Request) (sources : Sources) (o : Choices) (s : State) → (answered asked sources o s).is_supplied ≡ s.is_supplied
-answered_supplied (Include text unit) sources o s =
-    included_supplied sources o unit text (inclusion sources o.directories text s.nesting) s
+answered_supplied (Include text unit) sources o s = included_supplied sources o unit text (inclusion sources o.directories text s.nesting) s
 answered_supplied End sources o s = refl
 answered_supplied (Characters set) sources o s = refl
 answered_supplied Nothing sources o s = refl
 
 carried_supplied : (sources : Sources) (o : Choices) (s : State) → (carried_out sources o s).is_supplied ≡ s.is_supplied
-carried_supplied sources o s =
-    of_both (λ (x : State). x.is_supplied ≡ s.is_supplied) s.work.report.counts.is_over s
+carried_supplied sources o s = of_both (λ (x : State). x.is_supplied ≡ s.is_supplied) s.work.report.counts.is_over s
     (if is_mode_ended s.reading.mode then left s else answered s.work.asked sources o (asked_nothing s)) (λ _. refl)
     (λ _. of_both (λ (x : State). x.is_supplied ≡ s.is_supplied) (is_mode_ended s.reading.mode) (left s)
     (answered s.work.asked sources o (asked_nothing s)) (λ _. left_supplied s.nesting.waiting (file_closed s))
@@ -180,8 +168,7 @@ rested_supplied s =
     (λ _. of_both (λ (x : State). x.is_supplied ≡ s.is_supplied) (is_resting s) (piece_closed s) s (λ _. refl) (λ _. refl))
 
 pub followed_supplied : (sources : Sources) (o : Choices) (s : State) → (followed sources o s).is_supplied ≡ s.is_supplied
-followed_supplied sources o s =
-    rested_supplied (handled sources o s)
+followed_supplied sources o s = rested_supplied (handled sources o s)
     ∙ of_both (λ (x : State). x.is_supplied ≡ s.is_supplied) s.is_supplied s (carried_out sources o s) (λ _. refl)
     (λ _. carried_supplied sources o s)
 
@@ -202,8 +189,7 @@ turn_steps limits sources o s p at =
 -- the state behind the token of a turn
 pub turn_behind : (limits : Limits) (o : Choices) (s : State) (p : Position) (w : Compilation) → position_of s.reading ≡ p
     → (stepped limits o s).work ≡ w → afresh (stepped limits o s) ≡ behind_at o p w (afresh s)
-turn_behind limits o s p w at same =
-    ap (λ (q : Position). behind_at o q (stepped limits o s).work (afresh s)) at
+turn_behind limits o s p w at same = ap (λ (q : Position). behind_at o q (stepped limits o s).work (afresh s)) at
     ∙ ap (λ (v : Compilation). behind_at o p v (afresh s)) same
 
 -- the state behind the token of a turn, where the reading and the compilation behind it are known

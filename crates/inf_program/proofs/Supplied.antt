@@ -29,8 +29,7 @@ use Rattle.inf_program.proofs.TextTurns.{TextRan, beside, texts_alike, texts_bes
 abbrev front_conditions : ℕ → Conditions
 front_conditions declared = record no_conditions { declared = declared }
 
-front_matches : (o : Choices) (number : ℕ) (s : State)
-    → Matches (front_conditions s.work.output.names.declared) (text_start o number s)
+front_matches : (o : Choices) (number : ℕ) (s : State) → Matches (front_conditions s.work.output.names.declared) (text_start o number s)
 front_matches o number s = record {
   agree = record {
     pending = sides_are_judged.start.pending;
@@ -66,8 +65,7 @@ less_than_next n = omega arith
 
 text_over : (limits : Limits) (sources : Sources) (o : Choices) (number : ℕ) (s : State)
     → has_ended (side_run limits sources o (text_length number) (text_start o number s)) ≡ true
-text_over limits sources o number s =
-    ap turn_has_ended (sym (text_ran limits sources o number 0 s).same)
+text_over limits sources o number s = ap turn_has_ended (sym (text_ran limits sources o number 0 s).same)
     ∙ texts_end limits o (text_length number) (front_turn o number 0 s) (less_than_next (length (veneer_text number)))
 
 text_program : (limits : Limits) (sources : Sources) (o : Choices) (number : ℕ) (s : State)
@@ -91,11 +89,9 @@ supplied_from limits sources o number s (Some m) is later =
 
 supplied_within : (limits : Limits) (sources : Sources) (o : Choices) (left number : ℕ) (s : State) → most_texts - number ≤ left
     → (end : State) × AreSupplied limits sources o end number s
-supplied_within limits sources o zero number s few =
-    supplied_from limits sources o number s (next_behind number s) refl
+supplied_within limits sources o zero number s few = supplied_from limits sources o number s (next_behind number s) refl
     (λ m t is. let at = next_within s.work.report.counts.is_over number m s.work.output.names is in absurd (omega (arith, few, at.0, at.1)))
-supplied_within limits sources o (suc left) number s few =
-    supplied_from limits sources o number s (next_behind number s) refl
+supplied_within limits sources o (suc left) number s few = supplied_from limits sources o number s (next_behind number s) refl
     (λ m t is. let at = next_within s.work.report.counts.is_over number m s.work.output.names is in
     supplied_within limits sources o left m t (omega (arith, few, at.0, at.1)))
 
@@ -145,11 +141,9 @@ flushed_work w = record w { report = flushed w.report }
 abbrev flushed_state : State → State
 flushed_state s = record s { work = flushed_work s.work }
 
-begun_is : (o : Choices) (n number : ℕ) (v : TurnState) (s : State) → Speaks n v s
-    → in_text (text_front o number v) (text_begun v)
+begun_is : (o : Choices) (n number : ℕ) (v : TurnState) (s : State) → Speaks n v s → in_text (text_front o number v) (text_begun v)
     ≡ beside [] s.work.report.lines v.passed (front_turn o number v.quoted (flushed_state s))
-begun_is o n number v s p =
-    ap (λ (x : Nesting). begun_as o number x v.work v.conditions.most_tokens v.told v.quoted v.passed) p.nesting
+begun_is o n number v s p = ap (λ (x : Nesting). begun_as o number x v.work v.conditions.most_tokens v.told v.quoted v.passed) p.nesting
     ∙ (ap (λ (x : Compilation). begun_as o number s.nesting x v.conditions.most_tokens v.told v.quoted v.passed) p.work
     ∙ (ap (λ (x : ℕ). begun_as o number s.nesting (flushed_work s.work) x v.told v.quoted v.passed) p.most
     ∙ ap (λ (x : List ℕ). begun_as o number s.nesting (flushed_work s.work) s.most_tokens x v.quoted v.passed) p.told))
@@ -199,14 +193,12 @@ ended_with limits serial nesting w told =
 
 ending_is : (limits : Limits) (serial : List ℕ) (number : ℕ) (v : TurnState) (s : State) → Speaks number v s
     → ended_with limits serial v.nesting v.work v.told ≡ ending limits serial s
-ending_is limits serial number v s p =
-    ap (λ (x : Nesting). ended_with limits serial x v.work v.told) p.nesting
+ending_is limits serial number v s p = ap (λ (x : Nesting). ended_with limits serial x v.work v.told) p.nesting
     ∙ (ap (λ (x : Compilation). ended_with limits serial s.nesting x v.told) p.work
     ∙ ap (λ (x : List ℕ). ended_with limits serial s.nesting (flushed_work s.work) x) p.told)
 
 next_is : (number : ℕ) (v : TurnState) (s : State) → Speaks number v s → next_in v ≡ next_behind number s
-next_is number v s p =
-    ap (λ (x : Compilation). next_text x.report.counts.is_over v.passed x.output.names) p.work
+next_is number v s p = ap (λ (x : Compilation). next_text x.report.counts.is_over v.passed x.output.names) p.work
     ∙ ap (λ (x : ℕ). next_behind x s) p.passed
 
 pub supplied_ending : (limits : Limits) (sources : Sources) (o : Choices) (serial : List ℕ) (end : State) (number : ℕ) (s : State)

@@ -27,14 +27,13 @@ use Rattle.inf_program.proofs.SideTurns.{taken_by}
 
 text_ready : (c : Conditions) (s y : State) (b : Judged) → Passed c s y b → (HandsNone b.judged → y.reading ≡ s.reading)
     → ((b.now.pending ≡ []) × (b.now.left_out ≡ None)) ⊎ HandsNone b.judged → Ready (silent b.now) y
-text_ready c s y b p still (inl none) =
-    open_ready (silent b.now) y (record {
-      agree = agree_silent b.now y.sides p.agree;
-      declared = p.declared;
-      none_said = refl;
-      none = none.0;
-      stay = none.1;
-    })
+text_ready c s y b p still (inl none) = open_ready (silent b.now) y (record {
+  agree = agree_silent b.now y.sides p.agree;
+  declared = p.declared;
+  none_said = refl;
+  none = none.0;
+  stay = none.1;
+})
 text_ready c s y b p still (inr quiet) = still_ready c s y b p (still quiet)
 
 text_turned : (limits : Limits) (sources : Sources) (o : Choices) (c : Conditions) (q : ℕ) (s : State) → c.most_tokens ≡ s.most_tokens
@@ -82,8 +81,7 @@ TextsAlike limits sources o n =
 text_by : (limits : Limits) (sources : Sources) (o : Choices) (n : ℕ) → TextsAlike limits sources o n → (c : Conditions) (q : ℕ) (s : State)
     → c.most_tokens ≡ s.most_tokens → s.is_supplied ≡ true → (has_ended s ≡ false → Matches c s) → (b : Bool) → has_ended s ≡ b
     → TextRan (text_turns limits o (suc n) (with_conditions c q s)) (side_run limits sources o (suc n) s)
-text_by limits sources o n later c q s most supplied matches true over =
-    subst (λ (b : Bool). TextRan
+text_by limits sources o n later c q s most supplied matches true over = subst (λ (b : Bool). TextRan
     (if b then with_conditions c q s else text_turns limits o n (turn_rested (turn_stepped limits o (with_conditions c q s))))
     (if b then s else side_run limits sources o n (side_turn limits sources o s))) (sym over)
     (record { conditions = c; quoted = q; same = refl; most = most })
@@ -105,8 +103,7 @@ texts_alike limits sources o (suc n) c q s most supplied matches =
 -- Lemmas about the end of a text
 
 -- a token takes bytes, or is the end of the text, and ends it
-text_takes : (limits : Limits) (o : Choices) (s : TurnState)
-    → (is_mode_ended (turn_stepped limits o s).reading.mode ≡ true)
+text_takes : (limits : Limits) (o : Choices) (s : TurnState) → (is_mode_ended (turn_stepped limits o s).reading.mode ≡ true)
     ⊎ (length (turn_stepped limits o s).nesting.cursor.rest < length s.nesting.cursor.rest)
 text_takes limits o s =
     let c = s.nesting.cursor in
@@ -126,12 +123,10 @@ third_of_three false true c e = refl
 third_of_three false false c e = e
 
 rested_ends : (x : TurnState) → turn_has_ended x ≡ true → turn_has_ended (turn_rested x) ≡ true
-rested_ends x e =
-    ap turn_has_ended (ap (λ b. if b then x else if turn_resting x then turn_piece_closed x else x) e) ∙ e
+rested_ends x e = ap turn_has_ended (ap (λ b. if b then x else if turn_resting x then turn_piece_closed x else x) e) ∙ e
 
 rested_cursor : (x : TurnState) → length (turn_rested x).nesting.cursor.rest ≡ length x.nesting.cursor.rest
-rested_cursor x =
-    of_both (λ (y : TurnState). length y.nesting.cursor.rest ≡ length x.nesting.cursor.rest) (turn_has_ended x) x
+rested_cursor x = of_both (λ (y : TurnState). length y.nesting.cursor.rest ≡ length x.nesting.cursor.rest) (turn_has_ended x) x
     (if turn_resting x then turn_piece_closed x else x) (λ _. refl)
     (λ _. of_both (λ (y : TurnState). length y.nesting.cursor.rest ≡ length x.nesting.cursor.rest) (turn_resting x) (turn_piece_closed x) x
     (λ _. refl) (λ _. refl))
@@ -159,8 +154,7 @@ end_by limits o n later s few (inr less) =
 
 pub texts_end : (limits : Limits) (o : Choices) (n : ℕ) → AllEnd limits o n
 texts_end limits o zero s few = absurd (omega (arith, few))
-texts_end limits o (suc n) s few =
-    of_both (λ (x : TurnState). turn_has_ended x ≡ true) (turn_has_ended s) s
+texts_end limits o (suc n) s few = of_both (λ (x : TurnState). turn_has_ended x ≡ true) (turn_has_ended s) s
     (text_turns limits o n (turn_rested (turn_stepped limits o s))) (λ e. e)
     (λ _. end_by limits o n (texts_end limits o n) s few (text_takes limits o s))
 
@@ -176,8 +170,7 @@ with_passed passed s = record s { passed = passed }
 
 rested_beside : (lines told : List ℕ) (passed : ℕ) (s : TurnState)
     → turn_rested (beside lines told passed s) ≡ beside lines told passed (turn_rested s)
-rested_beside lines told passed s =
-    by_cases (turn_has_ended s) (turn_resting s) (with_lines lines told s)
+rested_beside lines told passed s = by_cases (turn_has_ended s) (turn_resting s) (with_lines lines told s)
     ∙ ap (with_passed passed) (rested_moves.moves lines told s)
   where
     by_cases : (ended rests : Bool) (x : TurnState)
@@ -201,8 +194,7 @@ beside_by lines told passed false x y z same = same
 pub texts_beside : (limits : Limits) (o : Choices) (n : ℕ) (lines told : List ℕ) (passed : ℕ) (s : TurnState)
     → text_turns limits o n (beside lines told passed s) ≡ beside lines told passed (text_turns limits o n s)
 texts_beside limits o zero lines told passed s = refl
-texts_beside limits o (suc n) lines told passed s =
-    beside_by lines told passed (turn_has_ended s) s
+texts_beside limits o (suc n) lines told passed s = beside_by lines told passed (turn_has_ended s) s
     (text_turns limits o n (turn_rested (turn_stepped limits o (beside lines told passed s))))
     (text_turns limits o n (turn_rested (turn_stepped limits o s)))
     (ap (text_turns limits o n) (turn_beside limits o lines told passed s)

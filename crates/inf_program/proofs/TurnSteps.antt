@@ -79,8 +79,7 @@ one_turn_steps limits o s = judged_is limits (context_of o s) (token_of s) (judg
 
 -- Lemmas about a turn behind which nothing else happens
 
-answered_plainly : (asked : Request) (sources : Sources) (o : Choices) (s : State) → asked ≡ Nothing
-    → answered asked sources o s ≡ s
+answered_plainly : (asked : Request) (sources : Sources) (o : Choices) (s : State) → asked ≡ Nothing → answered asked sources o s ≡ s
 answered_plainly asked sources o s nothing = ap (λ a. answered a sources o s) nothing
 
 carried_plainly : (sources : Sources) (o : Choices) (s : State) → IsQuiet s → carried_out sources o s ≡ s
@@ -96,8 +95,7 @@ either_state true s = refl
 either_state false s = refl
 
 rested_plainly : (s : State) → is_resting s ≡ false → rested s ≡ s
-rested_plainly s inside =
-    ap (λ b. if has_ended s then s else if b then piece_closed s else s) inside ∙ either_state (has_ended s) s
+rested_plainly s inside = ap (λ b. if has_ended s then s else if b then piece_closed s else s) inside ∙ either_state (has_ended s) s
 
 followed_plainly : (sources : Sources) (o : Choices) (s : State) → IsQuiet s → followed sources o s ≡ s
 followed_plainly sources o s quiet = ap rested (carried_plainly sources o s quiet) ∙ rested_plainly s quiet.is_inside

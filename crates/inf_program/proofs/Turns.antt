@@ -44,8 +44,7 @@ stepped_moves limits o = record {
 }
 
 silent_moves : (limits : Limits) (sources : Sources) (o : Choices) → Moves (silent_turn limits sources o)
-silent_moves limits sources o =
-    then_moves (stepped limits o) (followed sources o) (stepped_moves limits o) (followed_moves sources o)
+silent_moves limits sources o = then_moves (stepped limits o) (followed sources o) (stepped_moves limits o) (followed_moves sources o)
 
 -- A turn writes its lines, and no others.
 
@@ -72,8 +71,7 @@ one_turn limits sources o s =
 some_turns : (limits : Limits) (sources : Sources) (o : Choices) (n : ℕ) (s : State)
     → unwritten (turned limits sources o n s) ≡ silent_turned limits sources o n (unwritten s)
 some_turns limits sources o zero s = refl
-some_turns limits sources o (suc n) s =
-    some_turns limits sources o n (turn limits sources o s)
+some_turns limits sources o (suc n) s = some_turns limits sources o n (turn limits sources o s)
     ∙ ap (silent_turned limits sources o n) (one_turn limits sources o s)
 
 -- the turns behind the first, where reading has ended or not
@@ -84,8 +82,7 @@ by_end false x y z same = same
 all_turns : (limits : Limits) (sources : Sources) (o : Choices) (n : ℕ) (s : State)
     → unwritten (run limits sources o n s) ≡ silent_run limits sources o n (unwritten s)
 all_turns limits sources o zero s = refl
-all_turns limits sources o (suc n) s =
-    by_end (has_ended s) s (run limits sources o n (turn limits sources o s))
+all_turns limits sources o (suc n) s = by_end (has_ended s) s (run limits sources o n (turn limits sources o s))
     (silent_run limits sources o n (silent_turn limits sources o (unwritten s)))
     (all_turns limits sources o n (turn limits sources o s)
     ∙ ap (silent_run limits sources o n) (one_turn limits sources o s))

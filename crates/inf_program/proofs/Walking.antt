@@ -37,10 +37,7 @@ turn_is_at : (limits : Limits) (o : Choices) (x : State) (at : Position) (p : Pr
     (left : List (Symbol Action))
     → position_of x.reading ≡ at → Agrees atoms left p (stand_of (stepped limits o x))
     → IsAt atoms left (piece_behind o at (afresh x) p) (stepped limits o x)
-turn_is_at limits o x at p atoms left here a = record {
-  same = sym (turn_behind limits o x at p.work here a.same);
-  inside = a.inside;
-}
+turn_is_at limits o x at p atoms left here a = record { same = sym (turn_behind limits o x at p.work here a.same); inside = a.inside }
 
 within_is_at : (limits : Limits) (sources : Sources) (o : Choices) (x : State) (tokens : List SourceToken) (over : ℕ) (course : Course)
     (atoms : List ℕ) (left : List (Symbol Action))
@@ -80,8 +77,7 @@ quiet_at m x atoms left s is = record {
   is_not_over = ap (λ (q : State). q.work.report.counts.is_over) (sym s.same) ∙ is.is_not_over;
   has_more = ap is_mode_ended s.inside.at.reads;
   asks_nothing = subst (λ (q : State). AsksNothing q) s.same is.asks_nothing;
-  is_inside =
-      ap (λ b. b && has_none x.sides.texts) (ap (λ (p : Position). p.is_front) (is_within m x atoms left s is));
+  is_inside = ap (λ b. b && has_none x.sides.texts) (ap (λ (p : Position). p.is_front) (is_within m x atoms left s is));
 }
 
 pub going_at : (m : PieceState) (x : State) (atoms : List ℕ) (left : List (Symbol Action)) → IsAt atoms left m x → IsOpen left m
@@ -161,8 +157,7 @@ afresh_same s fresh = ap (λ (r : Reading). record s { reading = r }) (sym fresh
 pub front_steps : (limits : Limits) (sources : Sources) (o : Choices) (s : State) → s.reading ≡ between Recovery.Reads
     → stand_of (stepped limits o s)
     ≡ steps_by limits (context_of o s) (steps_at limits o at_front s) (stand (between Recovery.Reads) s.work)
-front_steps limits sources o s fresh =
-    turn_steps limits sources o s at_front (ap position_of fresh)
+front_steps limits sources o s fresh = turn_steps limits sources o s at_front (ap position_of fresh)
     ∙ ap (λ (r : Reading). steps_by limits (context_of o s) (steps_at limits o at_front s) (stand r s.work)) fresh
 
 -- the state behind the first token of the file
@@ -205,7 +200,6 @@ front_walked limits sources o s f fresh going =
 pub whole_is : (m : PieceState) (x : State) → IsAt [] [] m x → x ≡ m.state
 whole_is m x s =
     let empty : x.reading.stack ≡ [] = none_left x.reading.stack s.inside.derives.leads s.inside.is_rest in
-    let reading : x.reading ≡ between Recovery.Reads =
-    ap (λ m. record { mode = m; stack = x.reading.stack }) s.inside.at.reads
+    let reading : x.reading ≡ between Recovery.Reads = ap (λ m. record { mode = m; stack = x.reading.stack }) s.inside.at.reads
     ∙ ap (λ stack. record { mode = Recovery.Reads; stack = stack }) empty in
     sym (afresh_same x reading) ∙ sym s.same

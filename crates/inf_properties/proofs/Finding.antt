@@ -85,8 +85,7 @@ found_here first n p ps o e is =
 found-at_from : (first : ℕ) (places : List ℕ) (ps : List Property) (n : ℕ) → AreAt first places ps
     → found n ps ≡ at_place_from first n ps (slice_get places n)
 found-at_from first places [] n h = sym (nothing_there first n (slice_get places n))
-found-at_from first places (p ∷ ps) n h =
-    go (p.number == n) refl (found-at_from (first + 1) places ps n h.1)
+found-at_from first places (p ∷ ps) n h = go (p.number == n) refl (found-at_from (first + 1) places ps n h.1)
   where
     go : (b : Bool) → (p.number == n) ≡ b → found n ps ≡ at_place_from (first + 1) n ps (slice_get places n)
         → (if b then Some p else found n ps) ≡ at_place_from first n (p ∷ ps) (slice_get places n)
@@ -175,6 +174,3 @@ AreCovered-set places (p ∷ ps) n k h = (omega (arith, length-set {A = ℕ}, h.
 
 pub KeepsPlaces-then : (a b c : List ℕ) → KeepsPlaces a b → KeepsPlaces b c → KeepsPlaces a c
 KeepsPlaces-then a b c h k = record { kept = λ n place is. k.kept n place (h.kept n place is) }
-
-pub KeepsPlaces-same : (a : List ℕ) → KeepsPlaces a a
-KeepsPlaces-same a = record { kept = λ n place is. is }

@@ -11,16 +11,14 @@ use Rattle.inf_properties.proofs.Sums.{Changes, given_changes, replaced_changes,
 -- equal parts change alike
 alike : (old old' lost lost' gained gained' new : Size) → old ≡ old' → lost ≡ lost' → gained ≡ gained' → Changes old' lost' gained' new →
     Changes old lost gained new
-alike old old' lost lost' gained gained' new a b c h =
-    subst (λ x. Changes x lost gained new) (sym a)
+alike old old' lost lost' gained gained' new a b c h = subst (λ x. Changes x lost gained new) (sym a)
     (subst (λ x. Changes old' x gained new) (sym b) (subst (λ x. Changes old' lost' x new) (sym c) h))
 
 -- the size of a property, by its counts
 pub sized_by : (o o' : Owner) (n : ℕ) (b : Bool) (count later : ℕ) (values above own : List Value)
     → o ≡ o' → count ≡ length own → later ≡ later_count own → values ≡ above
     → joined_size o n b count later values ≡ joined_size o' n b (length own) (later_count own) above
-sized_by o o' n b count later values above own p q r s =
-    ap (λ x. joined_size x n b count later values) p
+sized_by o o' n b count later values above own p q r s = ap (λ x. joined_size x n b count later values) p
     ∙ ap (λ x. joined_size o' n b x later values) q
     ∙ ap (λ x. joined_size o' n b (length own) x values) r
     ∙ ap (λ x. joined_size o' n b (length own) (later_count own) x) s
@@ -59,8 +57,7 @@ valued_fits view s front p v size lost gained is last sized was now =
 pub sized_as : (o o' : Owner) (p : Property) (values : List Value) (above : List Property) → o ≡ o' → values ≡ values_of p.number above
     → size_by o p.number (length (joined_values p.is_additive p.values values)) (later_count (joined_values p.is_additive p.values values))
     ≡ size_of o' (joined above p)
-sized_as o o' p values above a b =
-    ap (λ x. size_by x p.number (length (joined_values p.is_additive p.values values))
+sized_as o o' p values above a b = ap (λ x. size_by x p.number (length (joined_values p.is_additive p.values values))
     (later_count (joined_values p.is_additive p.values values))) a
     ∙ ap (λ vs. size_by o' p.number (length (joined_values p.is_additive p.values vs))
     (later_count (joined_values p.is_additive p.values vs))) b

@@ -46,8 +46,7 @@ found-lacked n own (p ∷ above) e = go (p.number == n) (has p.number own) refl 
     go false false other taken later = ap (λ (c : Bool). if c then Some p else found n (lacked own above)) other ∙ later
 
 pub found-inherited : (own above : List Property) (n : ℕ) → found n (inherited own above) ≡ found_or_above n (found n own) above
-found-inherited own above n =
-    found-append n (with_joined above own) (lacked own above)
+found-inherited own above n = found-append n (with_joined above own) (lacked own above)
     ∙ ap (λ o. or_found o (found n (lacked own above))) (found-with_joined n above own)
     ∙ go (found n own) refl
   where
@@ -65,8 +64,7 @@ absent_both own above n e h = ap is_some (found-inherited own above n) ∙ go (f
 pub AreFree-inherited : (own above : List Property) → AreFree own → AreFree above → AreFree (inherited own above)
 AreFree-inherited own above h k = record {
   no_classes = absent_both own above 2 h.no_classes k.no_classes;
-  no_address = absent_both own
-      above 3 h.no_address k.no_address;
+  no_address = absent_both own above 3 h.no_address k.no_address;
 }
 
 neither : (a b : Bool) → (a || b) ≡ false → (a ≡ false) × (b ≡ false)

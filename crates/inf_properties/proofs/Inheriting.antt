@@ -99,8 +99,7 @@ AreNew-joined above (p ∷ own) before before' same h = (
 AreNew-lacked : (own above before before' : List Property) → ((n : ℕ) → has n own ≡ false → has n before ≡ false → has n before' ≡ false)
     → AreNew before above → AreNew before' (lacked own above)
 AreNew-lacked own [] before before' all h = tt
-AreNew-lacked own (p ∷ above) before before' all h =
-    go (has p.number own) refl
+AreNew-lacked own (p ∷ above) before before' all h = go (has p.number own) refl
     (AreNew-lacked own above (before ++ p ∷ []) before' (λ n lacks absent. all n lacks (absent_push p before n absent).1) h.1)
     (AreNew-lacked own above (before ++ p ∷ []) (before' ++ p ∷ [])
     (λ n lacks absent. let parts = absent_push p before n absent in has-push_other p before' n parts.0 ∙ all n lacks parts.1) h.1)
@@ -111,7 +110,5 @@ AreNew-lacked own (p ∷ above) before before' all h =
     go false is skipped taken = (all p.number is h.0, taken)
 
 pub AreNew-inherited : (own above : List Property) → AreNew [] own → AreNew [] above → AreNew [] (inherited own above)
-AreNew-inherited own above h k =
-    AreNew-append [] (with_joined above own) (lacked own above)
-    (AreNew-joined above own [] [] (λ n. refl) h)
+AreNew-inherited own above h k = AreNew-append [] (with_joined above own) (lacked own above) (AreNew-joined above own [] [] (λ n. refl) h)
     (AreNew-lacked own above [] ([] ++ with_joined above own) (λ n lacks absent. has-joined above own n ∙ lacks) k)

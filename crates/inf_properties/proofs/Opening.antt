@@ -1,5 +1,5 @@
 -- The invariant of a body holds behind all that the body takes.
-use Rattle.std.proofs.Common.{◌≡◌, ◌≤◌, ◌<◌, ◌+◌, ◌^◌, ◌∷◌, ◌++◌, [], ℕ, suc, zero, List, Bool, true, false, length, get_or, take, inl, inr}
+use Rattle.std.proofs.Common.{◌≡◌, ◌≤◌, ◌<◌, ◌+◌, ◌^◌, ◌∷◌, ◌++◌, [], ℕ, suc, zero, List, Bool, true, false, length, get_or, inl, inr}
 use Rattle.std.proofs.Common.{refl, sym, ap, subst, ◌∙◌, arith, slice_set, nat_lt, ◌⊎◌, if◌then◌else◌}
 use Rattle.inf_area.specs.declared.targets.Value.{Value}
 use Rattle.inf_properties.specs.{Open.IsOpen, Open.is_last_short, Places.AreAt, Places.KeepsPlaces, Values.with_last_value}
@@ -38,11 +38,6 @@ opens_given o own above own_places above_places places size new p h absent at fr
     opens o (own ++ p ∷ []) above places above_places new at h.above_at (AreNew-push [] own p h.own_new refl absent) h.above_new
     (AreFree-push own p h.own_free free) h.above_free
     (short-given own above p h.short short) sized small
-
-pub opens_placed : (o : Owner) (own above : List Property) (own_places above_places places : List ℕ) (size : Size)
-    → IsOpen o own above own_places above_places size → AreAt 0 places own → IsOpen o own above places above_places size
-opens_placed o own above own_places above_places places size h at =
-    opens o own above places above_places size at h.above_at h.own_new h.above_new h.own_free h.above_free h.short h.sized h.small
 
 pub opens_covered : (o : Owner) (own above : List Property) (own_places above_places places : List ℕ) (size : Size)
     → IsOpen o own above own_places above_places size → KeepsPlaces above_places places → IsOpen o own above own_places places size
@@ -132,10 +127,3 @@ opens_valued o own above own_places above_places size new v h short sized small 
     opens o (with_last_value v own) above own_places above_places new (AreAt-valued 0 own_places v own h.own_at) h.above_at
     (AreNew-valued [] v own h.own_new) h.above_new (AreFree-valued v own h.own_free) h.above_free (short-valued own above v h.short short)
     sized small
-
--- the front of a list is what was written over it
-pub take_front : (n : ℕ) (xs ys : List ℕ) → length xs ≡ n → take n (xs ++ ys) ≡ xs
-take_front zero [] ys e = refl
-take_front (suc n) [] ys e = absurd (omega arith)
-take_front zero (x ∷ xs) ys e = absurd (omega arith)
-take_front (suc n) (x ∷ xs) ys e = ap (λ zs. x ∷ zs) (take_front n xs ys (omega arith))

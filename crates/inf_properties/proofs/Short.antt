@@ -32,8 +32,7 @@ short_parts own above h = and_parts (are_short (with_joined above own)) (are_sho
 
 short_from : (own above : List Property) → are_short (with_joined above own) ≡ true → are_short (lacked own above) ≡ true →
     are_short (inherited own above) ≡ true
-short_from own above h k =
-    list_all-append is_short (with_joined above own) (lacked own above)
+short_from own above h k = list_all-append is_short (with_joined above own) (lacked own above)
     ∙ and_from (are_short (with_joined above own)) (are_short (lacked own above)) h k
 
 joined_short : (own above : List Property) (p : Property) → are_short (with_joined above own) ≡ true → is_short (joined above p) ≡ true →

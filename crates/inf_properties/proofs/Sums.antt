@@ -49,16 +49,14 @@ sum-lacked_push f own (q ∷ above) before p h e = go (q.number == p.number) ref
         absent_later (before ++ q ∷ []) above p.number h.1 (ap (λ k. has k (before ++ q ∷ [])) (sym is) ∙ has-push_same q before) in
         let left =
         sum-if f (has q.number own) q (lacked own above) ∙ ap (λ (b : Bool). (if b then 0 else f q) + sum_by f (lacked own above)) here in
-        let right =
-        sum-if f (has q.number (own ++ p ∷ [])) q (lacked (own ++ p ∷ []) above)
+        let right = sum-if f (has q.number (own ++ p ∷ [])) q (lacked (own ++ p ∷ []) above)
         ∙ ap (λ (b : Bool). (if b then 0 else f q) + sum_by f (lacked (own ++ p ∷ []) above)) there in
         let equal = ap (sum_by f) (lacked-absent own above p gone) in
         omega arith
     go false other later =
         let same : has q.number (own ++ p ∷ []) ≡ has q.number own = has-push_other p own q.number (other_way q.number p.number other) in
         let left = sum-if f (has q.number own) q (lacked own above) in
-        let right =
-        sum-if f (has q.number (own ++ p ∷ [])) q (lacked (own ++ p ∷ []) above)
+        let right = sum-if f (has q.number (own ++ p ∷ [])) q (lacked (own ++ p ∷ []) above)
         ∙ ap (λ (b : Bool). (if b then 0 else f q) + sum_by f (lacked (own ++ p ∷ []) above)) same in
         omega arith
 
@@ -70,8 +68,7 @@ with_joined-push above (q ∷ own) p = ap (λ xs. joined above q ∷ xs) (with_j
 sum-with_joined_push : (f : Property → ℕ) (own above : List Property) (p : Property)
     → sum_by f (inherited (own ++ p ∷ []) above) ≡ sum_by f (with_joined above own) + f (joined above p) + sum_by f
     (lacked (own ++ p ∷ []) above)
-sum-with_joined_push f own above p =
-    sum_by-append f (with_joined above (own ++ p ∷ [])) (lacked (own ++ p ∷ []) above)
+sum-with_joined_push f own above p = sum_by-append f (with_joined above (own ++ p ∷ [])) (lacked (own ++ p ∷ []) above)
     ∙ ap (λ xs. sum_by f xs + sum_by f (lacked (own ++ p ∷ []) above)) (with_joined-push above own p)
     ∙ ap (λ n. n + sum_by f (lacked (own ++ p ∷ []) above)) (sum_by_push f (with_joined above own) (joined above p))
 
@@ -88,8 +85,7 @@ sum-given f own above p h e =
 -- lists of the same numbers lack the same properties
 pub lacked-same : (own own' above : List Property) → SameNumbers own own' → lacked own above ≡ lacked own' above
 lacked-same own own' [] same = refl
-lacked-same own own' (q ∷ above) same =
-    ap (λ (b : Bool). if b then lacked own above else q ∷ lacked own above) (same q.number)
+lacked-same own own' (q ∷ above) same = ap (λ (b : Bool). if b then lacked own above else q ∷ lacked own above) (same q.number)
     ∙ ap (λ xs. if has q.number own' then xs else q ∷ xs) (lacked-same own own' above same)
 
 -- another property in place of the last
@@ -162,12 +158,10 @@ replaced_changes o front above p q e =
 abbrev sized : ℕ → ℕ → ℕ → Size
 sized bytes fixups individuals = record { bytes = bytes; fixups = fixups; individuals = individuals }
 
-pub changed_is : (old lost gained new : Size) → Changes old lost gained new
-    → record {
+pub changed_is : (old lost gained new : Size) → Changes old lost gained new → record {
       bytes = old.bytes - lost.bytes + gained.bytes;
       fixups = old.fixups - lost.fixups + gained.fixups;
-      individuals =
-          old.individuals - lost.individuals + gained.individuals;
+      individuals = old.individuals - lost.individuals + gained.individuals;
     } ≡ new
 changed_is old lost gained new h =
     let b : old.bytes - lost.bytes + gained.bytes ≡ new.bytes = omega (arith, h.bytes, h.lost_bytes) in
@@ -178,7 +172,7 @@ changed_is old lost gained new h =
     ∙ ap (λ n. sized new.bytes new.fixups n) i
 
 -- counts of joined values
-later_count-append : (xs ys : List Value) → later_count (xs ++ ys) ≡ later_count xs + later_count ys
+pub later_count-append : (xs ys : List Value) → later_count (xs ++ ys) ≡ later_count xs + later_count ys
 later_count-append [] ys = omega arith
 later_count-append (Value.Known n ∷ xs) ys = later_count-append xs ys
 later_count-append (Value.Later t ∷ xs) ys = omega (arith, later_count-append xs ys)
@@ -197,12 +191,8 @@ later-joined false own above = omega arith
 pub size-joined : (o : Owner) (n : ℕ) (b : Bool) (own above : List Value)
     → size_by o n (length (joined_values b own above)) (later_count (joined_values b own above)) ≡ joined_size o n b (length own)
     (later_count own) above
-size-joined o n b own above =
-    ap (λ k. size_by o n k (later_count (joined_values b own above))) (length-joined b own above)
+size-joined o n b own above = ap (λ k. size_by o n k (later_count (joined_values b own above))) (length-joined b own above)
     ∙ ap (λ k. size_by o n (joined_count b (length own) above) k) (later-joined b own above)
-
-pub count-joined : (b : Bool) (own above : List Value) → length (joined_values b own above) ≡ joined_count b (length own) above
-count-joined = length-joined
 
 -- there are no more fixups and individual properties than bytes
 later_within : (values : List Value) → later_count values ≤ length values

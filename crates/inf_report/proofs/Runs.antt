@@ -41,8 +41,7 @@ others_shown : (set : CharSet) (bytes : List ℕ) → shown_behind set [] bytes 
 others_shown set [] = refl
 others_shown set (b ∷ bs) = go (is_white set b) refl (others_shown set bs)
   where
-    go : (t : Bool) → is_white set b ≡ t
-        → shown_behind set [] bs ≡ take (prefix_len (is_alike set false) bs) bs ++ shown_behind set []
+    go : (t : Bool) → is_white set b ≡ t → shown_behind set [] bs ≡ take (prefix_len (is_alike set false) bs) bs ++ shown_behind set []
         (drop (prefix_len (is_alike set false) bs) bs)
         → cond t (shown_behind set (b ∷ []) bs) (b ∷ shown_behind set [] bs)
         ≡ take (cond (not t) (1 + prefix_len (is_alike set false) bs) 0) (b ∷ bs) ++ shown_behind set []
@@ -59,13 +58,11 @@ run_shown set false bytes = others_shown set bytes
 cut_again : (set : CharSet) (is_space : Bool) (whole rest done : List ℕ) (n : ℕ) → n ≡ prefix_len (is_alike set is_space) rest →
     shown_behind set [] whole ≡ done ++ shown_behind set [] rest
     → shown_behind set [] whole ≡ (done ++ shown_run is_space (take n rest)) ++ shown_behind set [] (drop n rest)
-cut_again set is_space whole rest done n is cut =
-    rw (
-      is,
-      append_assoc done (shown_run is_space (take (prefix_len (is_alike set is_space) rest) rest))
-          (shown_behind set [] (drop (prefix_len (is_alike set is_space) rest) rest)),
-    )
-    (cut ∙ ap (λ xs. done ++ xs) (run_shown set is_space rest))
+cut_again set is_space whole rest done n is cut = rw (
+  is,
+  append_assoc done (shown_run is_space (take (prefix_len (is_alike set is_space) rest) rest))
+      (shown_behind set [] (drop (prefix_len (is_alike set is_space) rest) rest)),
+) (cut ∙ ap (λ xs. done ++ xs) (run_shown set is_space rest))
 
 -- a run: the number of its bytes, the bytes behind it, and the text that is shown of it
 pub record IsRun (set : CharSet) (is_space : Bool) (rest behind piece : List ℕ) : Type 0 where

@@ -185,8 +185,7 @@ carried_condition : (limits : Limits) (context : Context) (first : Place) (f : O
     (w : Compilation) →
     Balanced due spare extra w → Balanced due spare extra (part_carried limits context first Part.Condition f w)
 carried_condition limits context first (Some f) due spare extra w g = g
-carried_condition limits context first None due spare extra w g =
-    condition_effect limits context
+carried_condition limits context first None due spare extra w g = condition_effect limits context
     (trees_at (order_of Part.Condition w) (wanted_of Part.Condition) (settled_of limits context w).operands w) due spare extra
     (record w { output = record (settled_of limits context w).out { first = first } })
     (settled_good limits context first due spare extra w g)
@@ -194,8 +193,7 @@ carried_condition limits context first None due spare extra w g =
 carried_start : (limits : Limits) (context : Context) (first : Place) (f : Option Finding) (due spare extra : Counts) (w : Compilation) →
     Balanced due spare extra w → Balanced due spare extra (part_carried limits context first Part.Start f w)
 carried_start limits context first (Some f) due spare extra w g = g
-carried_start limits context first None due spare extra w g =
-    start_effect limits context
+carried_start limits context first None due spare extra w g = start_effect limits context
     (trees_at (order_of Part.Start w) (wanted_of Part.Start) (settled_of limits context w).operands w) due spare extra
     (record w { output = record (settled_of limits context w).out { first = first } })
     (settled_good limits context first due spare extra w g)
@@ -203,8 +201,7 @@ carried_start limits context first None due spare extra w g =
 carried_switched : (limits : Limits) (context : Context) (first : Place) (f : Option Finding) (due spare extra : Counts) (w : Compilation) →
     Balanced due spare extra w → Balanced due spare extra (part_carried limits context first Part.Switched f w)
 carried_switched limits context first (Some f) due spare extra w g = g
-carried_switched limits context first None due spare extra w g =
-    switched_effect limits context
+carried_switched limits context first None due spare extra w g = switched_effect limits context
     (trees_at (order_of Part.Switched w) (wanted_of Part.Switched) (settled_of limits context w).operands w) due spare extra
     (record w { output = record (settled_of limits context w).out { first = first } })
     (settled_good limits context first due spare extra w g)
@@ -212,8 +209,7 @@ carried_switched limits context first None due spare extra w g =
 carried_case : (limits : Limits) (context : Context) (first : Place) (f : Option Finding) (due spare extra : Counts) (w : Compilation) →
     Balanced due spare extra w → Balanced due spare extra (part_carried limits context first Part.Case f w)
 carried_case limits context first (Some f) due spare extra w g = g
-carried_case limits context first None due spare extra w g =
-    case_effect limits context
+carried_case limits context first None due spare extra w g = case_effect limits context
     (trees_at (order_of Part.Case w) (wanted_of Part.Case) (settled_of limits context w).operands w) due spare extra
     (record w { output = record (settled_of limits context w).out { first = first } })
     (settled_good limits context first due spare extra w g)

@@ -68,8 +68,7 @@ pub good_paid : (needs given : List ℕ) (due left spare extra : Counts) (labels
     Good left spare extra labels constructs q
 good_paid needs given due left spare extra labels constructs o q g c h k = record {
   together = paid_together needs given o q g.together c;
-  sound =
-      sound_paid needs given (λ n. due n + (named_due n labels + cased n constructs))
+  sound = sound_paid needs given (λ n. due n + (named_due n labels + cased n constructs))
       (λ n. left n + (named_due n labels + cased n constructs)) spare (λ n. extra n + (reached n constructs + named_all n labels)) o q
       g.together g.sound c (λ n. let e = h n in paid n (due n) (left n) (named_due n labels + cased n constructs) e) k;
 }
@@ -81,8 +80,7 @@ pub good_still : (due spare extra : Counts) (labels : List NamedLabel) (construc
     Good due spare extra labels constructs o → Good due spare extra labels constructs q
 good_still due spare extra labels constructs o q l g = record {
   together = l.kept ∙ g.together;
-  sound =
-      sound_still (λ n. due n + (named_due n labels + cased n constructs)) spare
+  sound = sound_still (λ n. due n + (named_due n labels + cased n constructs)) spare
       (λ n. extra n + (reached n constructs + named_all n labels))
       o q l g.sound;
 }
@@ -97,8 +95,7 @@ pub good_as : (due spare extra more rest other : Counts) (labels : List NamedLab
     Turns due spare extra more rest other before after → Good due spare extra labels before o → Good more rest other labels after o
 good_as due spare extra more rest other labels before after o t g = record {
   together = g.together;
-  sound =
-      sound_as (λ n. due n + (named_due n labels + cased n before)) spare (λ n. extra n + (reached n before + named_all n labels))
+  sound = sound_as (λ n. due n + (named_due n labels + cased n before)) spare (λ n. extra n + (reached n before + named_all n labels))
       (λ n. more n + (named_due n labels + cased n after)) rest (λ n. other n + (reached n after + named_all n labels)) o g.sound
       (λ n. once (more n) (cased n after) (rest n) (due n) (cased n before) (spare n) (named_due n labels) (t.once n))
       (λ n. all (due n) (cased n before) (more n) (cased n after) (named_due n labels) (t.all n))
@@ -125,8 +122,7 @@ pub good_label : (due spare extra : Counts) (labels : List NamedLabel) (construc
     Good due (λ n. spare n + one n (record { number = o.next })) extra labels constructs (record o { next = behind o.next })
 good_label due spare extra labels constructs o g = record {
   together = g.together;
-  sound =
-      sound_label (λ n. due n + (named_due n labels + cased n constructs)) spare
+  sound = sound_label (λ n. due n + (named_due n labels + cased n constructs)) spare
       (λ n. extra n + (reached n constructs + named_all n labels)) o
       g.sound;
 }
@@ -241,10 +237,8 @@ opened_switch limits due spare extra labels around o g =
     good_opened (Kind.Switch Case.Nothing false) due spare extra due spare extra labels around o g
     (record { once = λ n. omega arith; all = λ n. omega arith; known = λ n. omega arith })
 
-pub opened_cases : (limits : Limits) (due spare extra : Counts) (labels : List NamedLabel) (o : Out) →
-    Good due spare extra labels [] o →
+pub opened_cases : (limits : Limits) (due spare extra : Counts) (labels : List NamedLabel) (o : Out) → Good due spare extra labels [] o →
     let c = opened limits (Kind.Cases Case.Nothing false) o in Good due spare extra labels (c.0 ∷ []) c.1
 unfolding opened
-opened_cases limits due spare extra labels o g =
-    good_opened (Kind.Cases Case.Nothing false) due spare extra due spare extra labels [] o g
+opened_cases limits due spare extra labels o g = good_opened (Kind.Cases Case.Nothing false) due spare extra due spare extra labels [] o g
     (record { once = λ n. omega arith; all = λ n. omega arith; known = λ n. omega arith })

@@ -47,8 +47,7 @@ pub cell_uses_joined : (a b : List Cell) → cell_uses (a ++ b) ≡ cell_uses a 
 cell_uses_joined [] b = refl
 cell_uses_joined ((Plain byte) ∷ a) b = cell_uses_joined a b
 cell_uses_joined ((Of (Special.Marks label)) ∷ a) b = cell_uses_joined a b
-cell_uses_joined ((Of (Special.Branches branch)) ∷ a) b =
-    ap (λ ns. target_labels branch.target ++ ns) (cell_uses_joined a b)
+cell_uses_joined ((Of (Special.Branches branch)) ∷ a) b = ap (λ ns. target_labels branch.target ++ ns) (cell_uses_joined a b)
     ∙ sym (append_assoc (target_labels branch.target) (cell_uses a) (cell_uses b))
 cell_uses_joined ((Of (Special.Jumps label)) ∷ a) b = ap (λ ns. label.number ∷ ns) (cell_uses_joined a b)
 cell_uses_joined ((Of (Special.Refers target)) ∷ a) b = cell_uses_joined a b
@@ -135,8 +134,7 @@ has_place place [] n h = absurd (omega (arith, h))
 has_place place ((Plain byte) ∷ cells) n h = has_place (place + 1) cells n h
 has_place place ((Of (Special.Marks label)) ∷ cells) n h = go (cases_eq label.number n) (λ k. has_place (place + 0) cells n k)
   where
-    go : (label.number ≡ n) ⊎ (label.number ≡ n → ⊥)
-        → (1 ≤ times n (cell_marks cells) → is_some (long_place (place + 0) cells n) ≡ true)
+    go : (label.number ≡ n) ⊎ (label.number ≡ n → ⊥) → (1 ≤ times n (cell_marks cells) → is_some (long_place (place + 0) cells n) ≡ true)
         → is_some (long_place place (Of (Special.Marks label) ∷ cells) n) ≡ true
     go (inl same) later = ap (λ b. is_some (if b then Some place else long_place (place + 0) cells n)) (eq-eqb label.number n same)
     go (inr other) later =
@@ -182,8 +180,7 @@ none_missing : (places : Places) (cells : List Cell) → ((n : ℕ) → 1 ≤ ti
 none_missing places [] h = refl
 none_missing places ((Plain byte) ∷ cells) h = none_missing places cells h
 none_missing places ((Of (Special.Marks label)) ∷ cells) h = none_missing places cells h
-none_missing places ((Of (Special.Branches branch)) ∷ cells) h =
-    placed_target places branch.target (missing places cells)
+none_missing places ((Of (Special.Branches branch)) ∷ cells) h = placed_target places branch.target (missing places cells)
     (λ n m. let e = times_joined n (target_labels branch.target) (cell_uses cells) in h n (omega (arith, e, m)))
     (none_missing places cells (λ n m. let e = times_joined n (target_labels branch.target) (cell_uses cells) in h n (omega (arith, e, m))))
 none_missing places ((Of (Special.Jumps label)) ∷ cells) h =
@@ -213,16 +210,13 @@ none_twice before ((Of (Special.Marks label)) ∷ cells) h =
         let f = times_joined n (label.number ∷ []) (cell_marks cells) in
         let most = h n in
         omega (arith, e, d, f, most)
-none_twice before ((Of (Special.Branches branch)) ∷ cells) h =
-    none_twice (before ++ Of (Special.Branches branch) ∷ []) cells
+none_twice before ((Of (Special.Branches branch)) ∷ cells) h = none_twice (before ++ Of (Special.Branches branch) ∷ []) cells
     (λ n. subst (λ ms. times n ms + times n (cell_marks cells) ≤ 1)
     (sym (cell_marks_joined before (Of (Special.Branches branch) ∷ []) ∙ append-nil (cell_marks before))) (h n))
-none_twice before ((Of (Special.Jumps label)) ∷ cells) h =
-    none_twice (before ++ Of (Special.Jumps label) ∷ []) cells
+none_twice before ((Of (Special.Jumps label)) ∷ cells) h = none_twice (before ++ Of (Special.Jumps label) ∷ []) cells
     (λ n. subst (λ ms. times n ms + times n (cell_marks cells) ≤ 1)
     (sym (cell_marks_joined before (Of (Special.Jumps label) ∷ []) ∙ append-nil (cell_marks before))) (h n))
-none_twice before ((Of (Special.Refers target)) ∷ cells) h =
-    none_twice (before ++ Of (Special.Refers target) ∷ []) cells
+none_twice before ((Of (Special.Refers target)) ∷ cells) h = none_twice (before ++ Of (Special.Refers target) ∷ []) cells
     (λ n. subst (λ ms. times n ms + times n (cell_marks cells) ≤ 1)
     (sym (cell_marks_joined before (Of (Special.Refers target) ∷ []) ∙ append-nil (cell_marks before))) (h n))
 
@@ -307,11 +301,9 @@ grew_one (Item.Mark l) code (Some c) now e h =
 
 grew_both : (a b : List Item) (x y z : Opened) → Grew a x y → Grew b y z → Grew (a ++ b) x z
 grew_both a b x y z f g = record {
-  marked =
-      g.marked ∙ (ap (λ ns. ns ++ marks b) f.marked ∙ (append_assoc (cell_marks x.contents.cells) (marks a) (marks b)
+  marked = g.marked ∙ (ap (λ ns. ns ++ marks b) f.marked ∙ (append_assoc (cell_marks x.contents.cells) (marks a) (marks b)
       ∙ ap (λ ns. cell_marks x.contents.cells ++ ns) (sym (marks_joined a b))));
-  used =
-      g.used ∙ (ap (λ ns. ns ++ uses b) f.used ∙ (append_assoc (cell_uses x.contents.cells) (uses a) (uses b)
+  used = g.used ∙ (ap (λ ns. ns ++ uses b) f.used ∙ (append_assoc (cell_uses x.contents.cells) (uses a) (uses b)
       ∙ ap (λ ns. cell_uses x.contents.cells ++ ns) (sym (uses_joined a b))));
 }
 
@@ -325,11 +317,7 @@ grew_all [] code now h = record {
 grew_all (item ∷ items) code now h =
     let later = grew_all items (grown item code) now h in
     let first = grew_one item code code.opened later.before refl later.is in
-    record {
-      before = first.before;
-      is = first.is;
-      grew = grew_both (item ∷ []) items first.before later.before now first.grew later.grew;
-    }
+    record { before = first.before; is = first.is; grew = grew_both (item ∷ []) items first.before later.before now first.grew later.grew }
 
 -- Lemmas about books
 
@@ -467,15 +455,13 @@ pub sound_as : (due spare need more rest other : Counts) (o : Out) → Sound due
     ((n : ℕ) → more n + rest n ≤ due n + spare n) → ((n : ℕ) → due n ≤ more n) → ((n : ℕ) → 1 ≤ other n → 1 ≤ need n + more n) →
     Sound more rest other o
 sound_as due spare need more rest other o b f g h = record {
-  holds = λ fits few now is.
-      booked_as due spare need more rest other o.next now.contents.cells (b.holds fits few now is) f g h;
+  holds = λ fits few now is. booked_as due spare need more rest other o.next now.contents.cells (b.holds fits few now is) f g h;
 }
 
 -- an output that has the same open routine
 pub sound_still : (due spare need : Counts) (o q : Out) → LeavesRoutine o q → Sound due spare need o → Sound due spare need q
 sound_still due spare need o q l b = record {
-  holds = λ fits few now is.
-      subst (λ k. Booked due spare need k now.contents.cells) (sym l.next)
+  holds = λ fits few now is. subst (λ k. Booked due spare need k now.contents.cells) (sym l.next)
       (b.holds (l.fits fits) (subst (λ k. k < 4294967295) l.next few) now (sym l.opened ∙ is));
 }
 

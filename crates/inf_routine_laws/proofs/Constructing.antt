@@ -45,8 +45,7 @@ case_code_owns limits next values = owned (case_made limits Any next values (any
 -- Items that were kept apart are laid as they are.
 pub items_laid_own : (limits : Limits) (items : List CodeItem) → Owned (laid_all limits items) (uses items) (marks items)
 items_laid_own limits [] = owned_nothing
-items_laid_own limits ((CodeItem.Instruction i) ∷ items) =
-    owned_then {c = laid limits (CodeItem.Instruction i)} {d = laid_all limits items}
+items_laid_own limits ((CodeItem.Instruction i) ∷ items) = owned_then {c = laid limits (CodeItem.Instruction i)} {d = laid_all limits items}
     {needs = uses (CodeItem.Instruction i ∷ items)} {a = []} {b = marks items}
     (owned_wide {c = laid limits (CodeItem.Instruction i)} {a = uses (CodeItem.Instruction i ∷ [])} (λ n h. first n h)
     (owned_item limits (CodeItem.Instruction i)))
@@ -55,14 +54,12 @@ items_laid_own limits ((CodeItem.Instruction i) ∷ items) =
     parts : (n : ℕ) →
         times n (uses (CodeItem.Instruction i ∷ items)) ≡ times n (operand_labels i.operands) + (times n (branch_labels i.branch)
         + times n (uses items))
-    parts n =
-        times_joined n (operand_labels i.operands) (branch_labels i.branch ++ uses items)
+    parts n = times_joined n (operand_labels i.operands) (branch_labels i.branch ++ uses items)
         ∙ ap (λ k. times n (operand_labels i.operands) + k) (times_joined n (branch_labels i.branch) (uses items))
 
     alone : (n : ℕ) →
         times n (uses (CodeItem.Instruction i ∷ [])) ≡ times n (operand_labels i.operands) + (times n (branch_labels i.branch) + 0)
-    alone n =
-        times_joined n (operand_labels i.operands) (branch_labels i.branch ++ [])
+    alone n = times_joined n (operand_labels i.operands) (branch_labels i.branch ++ [])
         ∙ ap (λ k. times n (operand_labels i.operands) + k) (times_joined n (branch_labels i.branch) [])
 
     first : (n : ℕ) → 1 ≤ times n (uses (CodeItem.Instruction i ∷ [])) → 1 ≤ times n (uses (CodeItem.Instruction i ∷ items))
@@ -108,8 +105,7 @@ pub ends_if : (limits : Limits) (due spare extra : Counts) (labels : List NamedL
     c.kind ≡ Kind.If → (l : Label) → Good (λ n. one n c.next + due n) (λ n. one n l + spare n) extra labels (c ∷ around) o →
     Good due spare extra labels around (closed limits c o)
 unfolding closed
-ends_if limits due spare extra labels c around o e l g =
-    subst (λ k. Good due spare extra labels around (ending limits c k o)) (sym e)
+ends_if limits due spare extra labels c around o e l g = subst (λ k. Good due spare extra labels around (ending limits c k o)) (sym e)
     (ends_by [] (c.next.number ∷ []) (λ n. one n c.next + due n) (λ n. one n l + spare n) extra due due spare extra labels c around o
     (marked limits c.next o) (came {needs = []} {given = c.next.number ∷ []} (owned_mark limits c.next) o) (marks_one c.next due)
     (λ n h. none_needed n (extra n + (reached n (c ∷ around) + named_all n labels)) h)
@@ -124,8 +120,7 @@ pub ends_else : (limits : Limits) (due spare extra : Counts) (labels : List Name
     c.kind ≡ Kind.Else → Good (λ n. one n c.end + due n) spare extra labels (c ∷ around) o →
     Good due spare extra labels around (closed limits c o)
 unfolding closed
-ends_else limits due spare extra labels c around o e g =
-    subst (λ k. Good due spare extra labels around (ending limits c k o)) (sym e)
+ends_else limits due spare extra labels c around o e g = subst (λ k. Good due spare extra labels around (ending limits c k o)) (sym e)
     (ends_by [] (c.end.number ∷ []) (λ n. one n c.end + due n) spare extra due due spare extra labels c around o
     (marked limits c.end o) (came {needs = []} {given = c.end.number ∷ []} (owned_mark limits c.end) o) (marks_one c.end due)
     (λ n h. none_needed n (extra n + (reached n (c ∷ around) + named_all n labels)) h)
@@ -139,8 +134,7 @@ pub ends_do : (limits : Limits) (due spare extra : Counts) (labels : List NamedL
     c.kind ≡ Kind.Do → Good (λ n. one n c.end + due n) spare extra labels (c ∷ around) o →
     Good due spare extra labels around (closed limits c o)
 unfolding closed
-ends_do limits due spare extra labels c around o e g =
-    subst (λ k. Good due spare extra labels around (ending limits c k o)) (sym e)
+ends_do limits due spare extra labels c around o e g = subst (λ k. Good due spare extra labels around (ending limits c k o)) (sym e)
     (ends_by [] (c.end.number ∷ []) (λ n. one n c.end + due n) spare extra due due spare extra labels c around o
     (marked limits c.end o) (came {needs = []} {given = c.end.number ∷ []} (owned_mark limits c.end) o) (marks_one c.end due)
     (λ n h. none_needed n (extra n + (reached n (c ∷ around) + named_all n labels)) h)
@@ -154,8 +148,7 @@ pub ends_while : (limits : Limits) (due spare extra : Counts) (labels : List Nam
     (o : Out) → c.kind ≡ Kind.While → Good (λ n. one n c.end + due n) spare extra labels (c ∷ around) o →
     Good due spare extra labels around (closed limits c o)
 unfolding closed
-ends_while limits due spare extra labels c around o e g =
-    subst (λ k. Good due spare extra labels around (ending limits c k o)) (sym e)
+ends_while limits due spare extra labels c around o e g = subst (λ k. Good due spare extra labels around (ending limits c k o)) (sym e)
     (ends_by (c.next.number ∷ []) (c.end.number ∷ []) (λ n. one n c.end + due n) spare extra due due spare extra labels c around o
     ((jumped limits c.next ▸ marked limits c.end) o)
     (came {needs = c.next.number ∷ []} {given = c.end.number ∷ []} (jump_mark limits c.next c.end) o) (marks_one c.end due)
@@ -534,16 +527,14 @@ looped_by_good limits (Some parent) e v due spare extra labels c around o k g = 
   how = Over.Children;
   variable = v;
   is = refl;
-  good =
-      looped_as limits (over_children limits parent v c) c.end Over.Children v due spare extra labels c around o k (λ n. omega arith)
+  good = looped_as limits (over_children limits parent v c) c.end Over.Children v due spare extra labels c around o k (λ n. omega arith)
       (λ n. refl) (owned (children_made limits Any parent (any_tree parent) v c)) g;
 }
 looped_by_good limits None e v due spare extra labels c around o k g = record {
   how = Over.All;
   variable = v;
   is = refl;
-  good =
-      looped_as limits (over_all limits (meaning limits e) v c) c.next Over.All v due spare extra labels c around o k (λ n. omega arith)
+  good = looped_as limits (over_all limits (meaning limits e) v c) c.next Over.All v due spare extra labels c around o k (λ n. omega arith)
       (λ n. refl) (owned (all_made limits Any e (any_tree e) v c)) g;
 }
 

@@ -114,8 +114,7 @@ good_named : (due spare rest extra : Counts) (labels now : List NamedLabel) (con
     Good due rest extra now constructs o
 good_named due spare rest extra labels now constructs o f g h b = record {
   together = b.together;
-  sound =
-      sound_as (λ n. due n + (named_due n labels + cased n constructs)) spare
+  sound = sound_as (λ n. due n + (named_due n labels + cased n constructs)) spare
       (λ n. extra n + (reached n constructs + named_all n labels)) (λ n. due n + (named_due n now + cased n constructs)) rest
       (λ n. extra n + (reached n constructs + named_all n now)) o b.sound
       (λ n. once (due n) (named_due n now) (cased n constructs) (rest n) (named_due n labels) (spare n) (f n))
@@ -150,8 +149,7 @@ wanted_as : (due spare extra : Counts) (constructs : List Construct) (name : Lis
 wanted_as due spare extra constructs name new labels o None e g =
     let entry : Known = record { spelling = name; label = new; is_given = false } in
     let now = put (folded name) entry labels in record {
-      good =
-          good_named due (λ n. spare n + one n new) spare extra labels now constructs o
+      good = good_named due (λ n. spare n + one n new) spare extra labels now constructs o
           (λ n. let p = put_new_due n (folded name) entry labels e in omega (arith, p))
           (λ n. let p = put_new_due n (folded name) entry labels e in omega (arith, p))
           (λ n.
@@ -179,8 +177,7 @@ jump_good limits due spare extra constructs l labels o i =
     let b = i.good in
     let c = came {needs = l.number ∷ []} {given = []} (owned_jump limits l) o in record {
       together = paid_together (l.number ∷ []) [] o (jumped limits l o) b.together c;
-      sound =
-          sound_paid (l.number ∷ []) [] (λ n. due n + (named_due n labels + cased n constructs))
+      sound = sound_paid (l.number ∷ []) [] (λ n. due n + (named_due n labels + cased n constructs))
           (λ n. due n + (named_due n labels + cased n constructs)) spare (λ n. extra n + (reached n constructs + named_all n labels)) o
           (jumped limits l o) b.together b.sound c (λ n. omega arith)
           (λ n some. needs_one l n (extra n + (reached n constructs + named_all n labels)) (let a = i.among n in omega (arith, a)) some);
@@ -198,8 +195,7 @@ given_as limits due spare extra constructs name new labels o None e h g =
     let left : Counts = λ n. due n + (named_due n now + cased n constructs) in
     let need : Counts = λ n. extra n + (reached n constructs + named_all n now) in record {
       together = paid_together [] (new.number ∷ []) o (marked limits new o) g.together c;
-      sound =
-          sound_paid [] (new.number ∷ []) (λ n. one n new + left n) left spare need o (marked limits new o) g.together
+      sound = sound_paid [] (new.number ∷ []) (λ n. one n new + left n) left spare need o (marked limits new o) g.together
           (sound_as (λ n. due n + (named_due n labels + cased n constructs)) (λ n. spare n + one n new)
           (λ n. extra n + (reached n constructs + named_all n labels)) (λ n. one n new + left n) spare need o g.sound
           (λ n. let p = put_new_due n (folded name) entry labels e in omega (arith, p))
@@ -214,8 +210,7 @@ given_as limits due spare extra constructs name new labels o (Some k) e h g =
     let left : Counts = λ n. due n + (named_due n now + cased n constructs) in
     let need : Counts = λ n. extra n + (reached n constructs + named_all n now) in record {
       together = paid_together [] (k.label.number ∷ []) o (marked limits k.label o) g.together c;
-      sound =
-          sound_paid [] (k.label.number ∷ []) (λ n. one n k.label + left n) left spare need o (marked limits k.label o) g.together
+      sound = sound_paid [] (k.label.number ∷ []) (λ n. one n k.label + left n) left spare need o (marked limits k.label o) g.together
           (sound_as (λ n. due n + (named_due n labels + cased n constructs)) (λ n. spare n + one n new)
           (λ n. extra n + (reached n constructs + named_all n labels)) (λ n. one n k.label + left n) spare need o g.sound
           (λ n. let p = put_due n (folded name) k.spelling k labels e h in omega (arith, p))
@@ -304,8 +299,7 @@ jumped_owns limits (Some l) = owned_jump limits l
 left_good : (limits : Limits) (on : Bool) (due spare extra : Counts) (labels : List NamedLabel) (constructs : List Construct) (o : Out) →
     Good due spare extra labels constructs o →
     Good due spare extra labels constructs (jumped_to limits (left_to on constructs) o)
-left_good limits on due spare extra labels constructs o g =
-    code_good {code = jumped_to limits (left_to on constructs)}
+left_good limits on due spare extra labels constructs o g = code_good {code = jumped_to limits (left_to on constructs)}
     {needs = label_in (left_to on constructs)} due spare extra labels constructs o
     (jumped_owns limits (left_to on constructs)) (λ n. let p = left_reached on constructs n in omega (arith, p)) g
 
@@ -414,8 +408,7 @@ pub statement_good : (limits : Limits) (s : Site) (which : Statement) (trees : L
     let r = statement_laid limits s which trees labels o in Good due spare extra r.0 s.constructs r.1
 unfolding statement_laid
 statement_good limits s Statement.Empty trees due spare extra labels o h g = g
-statement_good limits s Statement.Break trees due spare extra labels o h g =
-    left_good limits false due spare extra labels s.constructs o g
+statement_good limits s Statement.Break trees due spare extra labels o h g = left_good limits false due spare extra labels s.constructs o g
 statement_good limits s Statement.Continue trees due spare extra labels o h g =
     left_good limits true due spare extra labels s.constructs o g
 statement_good limits s Statement.Place trees due spare extra labels o h g =

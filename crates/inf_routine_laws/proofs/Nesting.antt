@@ -230,8 +230,7 @@ for_stepped limits context (StepEnds step ends) due spare extra c around v e non
       record {
         step = s.step;
         is = s.is;
-        good =
-            good_still (marks_due s.step due) spare (uses_known s.step extra) now.labels (d ∷ around) now.output
+        good = good_still (marks_due s.step due) spare (uses_known s.step extra) now.labels (d ∷ around) now.output
             (ends.behind.output now.output) (l1.1.0 now.output) s.good;
       },
       (step_ends limits context ends.place u c around read.is).1 ∙ read.none,

@@ -111,8 +111,7 @@ pub not_stepped : (due spare extra : Counts) (labels : List NamedLabel) (c : Con
 not_stepped due spare extra labels c around o e g = record {
   step = None;
   is = ap (λ s. record c { step = s } ∷ around) e;
-  good =
-      subst (λ s. Good (marks_due None due) spare (uses_known None extra) labels (record c { step = s } ∷ around) o) e
+  good = subst (λ s. Good (marks_due None due) spare (uses_known None extra) labels (record c { step = s } ∷ around) o) e
       (good_as due spare extra (marks_due None due) spare (uses_known None extra) labels (c ∷ around) (c ∷ around) o
       (record { once = λ n. omega arith; all = λ n. omega arith; known = λ n. omega arith }) g);
 }
@@ -134,8 +133,7 @@ step_carried limits context first None due spare extra c around w is e none g =
     (subst (λ l. Good due spare extra w.labels l w.output) (sym is) g) in record {
       step = Some (items_of (code (apart o)).kept);
       is = ap (with_step (Some (items_of (code (apart o)).kept))) is;
-      good =
-          stepped_good code (alone_owns limits trees) due spare extra w.labels c around o e
+      good = stepped_good code (alone_owns limits trees) due spare extra w.labels c around o e
           (subst (λ l. Good due spare extra w.labels l o) is before);
     }
 
@@ -254,8 +252,7 @@ switch_stays limits context (Plain plain) w e h = ap case_inside (quiet_run limi
 switch_stays limits context (Then before behind) w e h =
     let one = laid_as limits context before w e in
     switch_stays limits context behind (laid limits context before w) one.none_ahead (switch_stays limits context before w e h)
-switch_stays limits context (Case values ends) w e h =
-    case_ends_inside limits context ends.place (run limits context values.all w)
+switch_stays limits context (Case values ends) w e h = case_ends_inside limits context ends.place (run limits context values.all w)
     (ap case_inside (quiet_run limits context values.all w values.are).0 ∙ h)
 switch_stays limits context other w e h = h
 

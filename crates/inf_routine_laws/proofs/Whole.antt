@@ -59,8 +59,7 @@ joined_leave ((Takes t m) ∷ xs) ys a b = (a.0, joined_leave xs ys a.1 b)
 
 token_leaves : (t : SourceToken) (m : Between) (actions : List Action) → LeaveRoutine m → AllLeave (token_happenings t m actions)
 token_leaves t m [] a = (a, tt)
-token_leaves t m (x ∷ actions) a =
-    (λ o. record { opened = refl; next = refl; kept = refl; fits = λ e. e }, token_leaves t m actions a)
+token_leaves t m (x ∷ actions) a = (λ o. record { opened = refl; next = refl; kept = refl; fits = λ e. e }, token_leaves t m actions a)
 
 behind_leaves : (directive : Option Between) (count : ℕ) (b : Between) → DirectiveLeaves directive → LeaveRoutine b →
     LeaveRoutine (behind_token directive count b)
@@ -103,9 +102,7 @@ full_label true s rest h = refl
 full_label false s rest h = h
 
 limit_label : (references : ℕ) (contents : Contents) (len : ℕ) → is_of_labels (limit_fault references contents len) ≡ false
-limit_label references contents len =
-    full_label (is_full contents.is_final unlimited len) Limit.Code _
-    (full_label _ Limit.Refs None refl)
+limit_label references contents len = full_label (is_full contents.is_final unlimited len) Limit.Code _ (full_label _ Limit.Refs None refl)
 
 of_full_label : (full : Option Limit) → is_of_labels (fault_of_full full) ≡ false
 of_full_label None = refl
@@ -167,8 +164,7 @@ ended_good : (limits : Limits) (labels : List NamedLabel) (constructs : List Con
     Good none_due none_due none_due labels constructs o →
     Good none_due none_due none_due labels [] (ended limits constructs o).1
 ended_good limits labels [] o h g = g
-ended_good limits labels (c ∷ []) o h g =
-    ends_case_kind limits c.kind none_due none_due none_due labels c [] o refl (cases_kind c.kind h) g
+ended_good limits labels (c ∷ []) o h g = ends_case_kind limits c.kind none_due none_due none_due labels c [] o refl (cases_kind c.kind h) g
   where
     cases_kind : (k : Kind) → are_cases k ≡ true → case_kind k ≡ true
     cases_kind (Kind.Cases old had_default) e = refl
@@ -215,8 +211,7 @@ own_begun w h = ap own_alone h.constructs
 
 body_has : (limits : Limits) (context : Context) (body : Nested true) (w : Compilation) → w.closed ≡ 0 → own_alone w.constructs ≡ true →
     Balanced none_due none_due none_due w → AllLeave (happenings body) → HasItsLabels limits (laid limits context body w)
-body_has limits context body w e h g l =
-    has_its_labels limits (laid limits context body w) (alone_behind limits context body w e h)
+body_has limits context body w e h g l = has_its_labels limits (laid limits context body w) (alone_behind limits context body w e h)
     (keeps_all limits context body none_due none_due none_due w e l g)
 
 routine_has : (limits : Limits) (context : Context) (r : Routine) (w : Compilation) → w.closed ≡ 0 →
@@ -314,12 +309,7 @@ begun_opened None r = refl
 begun_opened (Some s) r = refl
 
 begun_leaves : (limits : Limits) (x : Option Limit) (o : Out) → LeavesRoutine o (begun_by limits x o)
-begun_leaves limits None o = record {
-  opened = begun_opened (full_begun limits o.code) o.code;
-  next = refl;
-  kept = refl;
-  fits = λ e. e;
-}
+begun_leaves limits None o = record { opened = begun_opened (full_begun limits o.code) o.code; next = refl; kept = refl; fits = λ e. e }
 begun_leaves limits (Some s) o = record {
   opened = begun_opened (full_begun limits o.code) o.code;
   next = refl;

@@ -149,8 +149,7 @@ module _ (limits : Limits) (seen : List Seen) (events : List (Event Action)) (go
         same = g.same;
         quiet = g.quiet;
         written = λ fit. subst (λ x. AreWritten x g.parts) same g.written;
-        does = λ fit context next w none room.
-            subst (λ x. run limits context (happenings_before next events seen) (record w { unit = x })
+        does = λ fit context next w none room. subst (λ x. run limits context (happenings_before next events seen) (record w { unit = x })
             ≡ record (parts_told context x g.parts w) { unit = with_parts g.parts x }) same
             (g.does context next w none (subst (λ x. have_room limits x g.parts ≡ true) (sym same) room));
       }
@@ -182,11 +181,9 @@ case_tree is limits next symbols typed {events} kind seen text are_seen few =
     let hs = happenings_before place u.acts u.body in
     let end : List Happening = Acts ends Action.EndCase ∷ Takes c.token c.behind ∷ [] in
     let all_rest = texts_take_all s.text s.rest refl in
-    let all =
-    take_front Action.EndCase u.atom u.acts u.body c
+    let all = take_front Action.EndCase u.atom u.acts u.body c
     (subst (λ l. TakeAll l (u.body ++ c ∷ [])) (sym u.are) (subst (λ l. TakeAll s.late l) (sym u.same) all_rest)) in
-    let happen : happenings_before next s.late s.rest ≡ hs ++ end =
-    ap (λ l. happenings_before next l s.rest) (sym u.are)
+    let happen : happenings_before next s.late s.rest ≡ hs ++ end = ap (λ l. happenings_before next l s.rest) (sym u.are)
     ∙ (ap (λ l. happenings_before next (u.acts ++ late) l) (sym u.same) ∙ before-append next u.acts late u.body (c ∷ []) all) in
     let inside = seen_front u.body c (moved_seen (sym u.same) parts.1) in
     let body_count : length u.body + 1 ≡ length s.rest = sym (length-append u.body (c ∷ [])) ∙ ap length u.same in
@@ -201,9 +198,7 @@ case_tree is limits next symbols typed {events} kind seen text are_seen few =
       all = ap (λ x. start_seen s.start ++ (x ++ c ∷ [])) (v no_unit).same ∙ (ap (λ x. start_seen s.start ++ x) u.same ∙ s.same);
       written = λ x fit. (v x).written (ap (λ m. fits m x) (sym count) ∙ fit);
       nested = After (Plain first) (After (Case q ends) (Plain last));
-      same =
-          sym (s.happen next
-          ∙ ap (λ x. s.happens next ++ x) (happen
+      same = sym (s.happen next ∙ ap (λ x. s.happens next ++ x) (happen
           ∙ sym (append_assoc hs (Acts ends Action.EndCase ∷ []) (Takes c.token c.behind ∷ []))));
       rests = λ effects. refl;
       lays = λ effects context w ahead none.

@@ -42,8 +42,7 @@ left effects (Acts at a ∷ hs) = left (if is_close a then later_effects effects
 pub given-append : (effects : Effects) (xs ys : List Happening) → given effects (xs ++ ys) ≡ given effects xs ++ given (left effects xs) ys
 given-append effects [] ys = refl
 given-append effects (Takes t m ∷ xs) ys = ap (λ l. Takes t m ∷ l) (given-append effects xs ys)
-given-append effects (Acts at a ∷ xs) ys =
-    ap (λ l. Acts (if is_close a then ends_at (next_effect effects) at else at) a ∷ l)
+given-append effects (Acts at a ∷ xs) ys = ap (λ l. Acts (if is_close a then ends_at (next_effect effects) at else at) a ∷ l)
     (given-append (if is_close a then later_effects effects else effects) xs ys)
 
 pub left-append : (effects : Effects) (xs ys : List Happening) → left effects (xs ++ ys) ≡ left (left effects xs) ys
@@ -74,9 +73,7 @@ left_quiet effects (Acts at a ∷ hs) quiet =
     ap (λ b. left (if b then later_effects effects else effects) hs) (quiet_is_no_close a both.0) ∙ left_quiet effects hs both.1
 
 pub given_behind : (effects : Effects) (q : Quiet) (hs : List Happening) → given effects (q.all ++ hs) ≡ q.all ++ given effects hs
-given_behind effects q hs =
-    given-append effects q.all hs
-    ∙ (ap (λ l. l ++ given (left effects q.all) hs) (given_quiet effects q.all q.are)
+given_behind effects q hs = given-append effects q.all hs ∙ (ap (λ l. l ++ given (left effects q.all) hs) (given_quiet effects q.all q.are)
     ∙ ap (λ e. q.all ++ given e hs) (left_quiet effects q.all q.are))
 
 left_behind : (effects : Effects) (q : Quiet) (hs : List Happening) → left effects (q.all ++ hs) ≡ left effects hs
@@ -132,20 +129,17 @@ record Ended {b : Bool} (effects : Effects) (n : Nested b) (others : List Happen
       ≡ happenings (put effects n).0 ++ (others ++ Acts (ends_at (next_effect (put effects n).1) closes) Action.Close ∷ [])
   rest : left effects (happenings n ++ (others ++ Acts closes Action.Close ∷ [])) ≡ later_effects (put effects n).1
 
-ended : {b : Bool} (effects : Effects) (n : Nested b) (others : Quiet) (closes : Moment) → Put effects n
-    → Ended effects n others.all closes
+ended : {b : Bool} (effects : Effects) (n : Nested b) (others : Quiet) (closes : Moment) → Put effects n → Ended effects n others.all closes
 ended effects n others closes p =
     let close = λ (at : Moment). Acts at Action.Close ∷ [] in
     let x = put effects n in
     let hs = happenings n in
     record {
-      same =
-          given-append effects hs (others.all ++ close closes)
+      same = given-append effects hs (others.all ++ close closes)
           ∙ (ap (λ l. l ++ given (left effects hs) (others.all ++ close closes)) (sym p.same)
           ∙ (ap (λ e. happenings x.0 ++ given e (others.all ++ close closes)) (sym p.rest)
           ∙ ap (λ l. happenings x.0 ++ l) (given_behind x.1 others (close closes))));
-      rest =
-          left-append effects hs (others.all ++ close closes)
+      rest = left-append effects hs (others.all ++ close closes)
           ∙ (ap (λ e. left e (others.all ++ close closes)) (sym p.rest) ∙ left_behind x.1 others (close closes));
     }
 
@@ -161,9 +155,7 @@ put_happens effects (Then first second) =
     let two = put_happens x.1 second in
     let hs = happenings first in
     record {
-      same =
-          ap (λ l. l ++ happenings (put x.1 second).0) one.same
-          ∙ (ap (λ l. given effects hs ++ l) two.same
+      same = ap (λ l. l ++ happenings (put x.1 second).0) one.same ∙ (ap (λ l. given effects hs ++ l) two.same
           ∙ (ap (λ e. given effects hs ++ given e (happenings second)) one.rest ∙ sym (given-append effects hs (happenings second))));
       rest = two.rest ∙ (ap (λ e. left e (happenings second)) one.rest ∙ sym (left-append effects hs (happenings second)));
     }
@@ -185,15 +177,12 @@ put_happens effects (IfElse opens test body joins word other closes) =
     let behind : List Happening = Acts joins Action.Else ∷ (word.all ++ last) in
     let hs = happenings body ++ behind in
     record {
-      same =
-          sym (ap (λ l. Acts opens Action.OpenIf ∷ l) (given_behind effects test hs
+      same = sym (ap (λ l. Acts opens Action.OpenIf ∷ l) (given_behind effects test hs
           ∙ ap (λ l. test.all ++ l) (given-append effects (happenings body) behind
           ∙ (ap (λ l. l ++ given (left effects (happenings body)) behind) (sym p.same)
           ∙ (ap (λ r. happenings x.0 ++ given r behind) (sym p.rest)
           ∙ ap (λ l. happenings x.0 ++ Acts joins Action.Else ∷ l) (given_behind x.1 word last ∙ ap (λ l. word.all ++ l) e.same))))));
-      rest =
-          sym (left_behind effects test hs
-          ∙ (left-append effects (happenings body) behind
+      rest = sym (left_behind effects test hs ∙ (left-append effects (happenings body) behind
           ∙ (ap (λ r. left r behind) (sym p.rest) ∙ (left_behind x.1 word last ∙ e.rest))));
     }
 put_happens effects (While opens test body closes) =
@@ -209,15 +198,12 @@ put_happens effects (Do opens body word joins test closes) =
     let close = λ (at : Moment). Acts at Action.Close ∷ [] in
     let last = word.all ++ Acts joins Action.Until ∷ (test.all ++ close closes) in
     record {
-      same =
-          sym (ap (λ l. Acts opens Action.OpenDo ∷ l) (given-append effects (happenings body) last
+      same = sym (ap (λ l. Acts opens Action.OpenDo ∷ l) (given-append effects (happenings body) last
           ∙ (ap (λ l. l ++ given (left effects (happenings body)) last) (sym p.same)
           ∙ (ap (λ r. happenings x.0 ++ given r last) (sym p.rest)
           ∙ ap (λ l. happenings x.0 ++ l) (given_behind x.1 word (Acts joins Action.Until ∷ (test.all ++ close closes))
           ∙ ap (λ l. word.all ++ Acts joins Action.Until ∷ l) (given_behind x.1 test (close closes)))))));
-      rest =
-          sym (left-append effects (happenings body) last
-          ∙ (ap (λ r. left r last) (sym p.rest)
+      rest = sym (left-append effects (happenings body) last ∙ (ap (λ r. left r last) (sym p.rest)
           ∙ (left_behind x.1 word (Acts joins Action.Until ∷ (test.all ++ close closes)) ∙ left_behind x.1 test (close closes))));
     }
 put_happens effects (For opens start joins test step bracket body closes) =
@@ -227,13 +213,11 @@ put_happens effects (For opens start joins test step bracket body closes) =
     let stepped = step_happenings step ++ bracketed in
     let tested : List Happening = Acts joins Action.ForTop ∷ (test.all ++ stepped) in
     record {
-      same =
-          sym (ap (λ l. Acts opens Action.OpenFor ∷ l) (given_behind effects start tested
+      same = sym (ap (λ l. Acts opens Action.OpenFor ∷ l) (given_behind effects start tested
           ∙ ap (λ l. start.all ++ Acts joins Action.ForTop ∷ l) (given_behind effects test stepped
           ∙ ap (λ l. test.all ++ l) (step_given effects step bracketed
           ∙ ap (λ l. step_happenings step ++ l) (given_behind effects bracket last ∙ ap (λ l. bracket.all ++ l) e.same)))));
-      rest =
-          sym (left_behind effects start tested
+      rest = sym (left_behind effects start tested
           ∙ (left_behind effects test stepped ∙ (step_left effects step bracketed ∙ (left_behind effects bracket last ∙ e.rest))));
     }
 put_happens effects (Objectloop opens loop ends joins bracket body closes) =
@@ -241,8 +225,7 @@ put_happens effects (Objectloop opens loop ends joins bracket body closes) =
     let last = happenings body ++ Acts closes Action.Close ∷ [] in
     let looped : List Happening = Acts ends Action.EndObjectloop ∷ Acts joins Action.Loop ∷ (bracket.all ++ last) in
     record {
-      same =
-          sym (ap (λ l. Acts opens Action.OpenObjectloop ∷ l) (given_behind effects loop looped
+      same = sym (ap (λ l. Acts opens Action.OpenObjectloop ∷ l) (given_behind effects loop looped
           ∙ ap (λ l. loop.all ++ Acts ends Action.EndObjectloop ∷ Acts joins Action.Loop ∷ l)
           (given_behind effects bracket last ∙ ap (λ l. bracket.all ++ l) e.same)));
       rest = sym (left_behind effects loop looped ∙ (left_behind effects bracket last ∙ e.rest));
@@ -294,8 +277,7 @@ same_if false x = refl
 pub none_given : (hs : List Happening) → given [] hs ≡ hs
 none_given [] = refl
 none_given (Takes t m ∷ hs) = ap (λ l. Takes t m ∷ l) (none_given hs)
-none_given (Acts at a ∷ hs) =
-    ap (λ x. Acts x a ∷ given (if is_close a then [] else []) hs) (same_if (is_close a) at)
+none_given (Acts at a ∷ hs) = ap (λ x. Acts x a ∷ given (if is_close a then [] else []) hs) (same_if (is_close a) at)
     ∙ (ap (λ (e : Effects). Acts at a ∷ given e hs) (same_if (is_close a) []) ∙ ap (λ l. Acts at a ∷ l) (none_given hs))
 
 -- a tree that holds others, where these have no effects
@@ -310,16 +292,13 @@ pub none_effects : (tree : Tree) → with_effects [] tree ≡ (tree, [])
 none_effects (ThenTree one others) =
     ap (λ (x : Tree × Effects). let y = with_effects x.1 others in (ThenTree x.0 y.0, y.1)) (none_effects one)
     ∙ ap (λ (y : Tree × Effects). (ThenTree one y.0, y.1)) (none_effects others)
-none_effects (Block brace inside closing) =
-    ap (λ (x : Tree × Effects). (Block brace x.0 closing, x.1)) (none_effects inside)
+none_effects (Block brace inside closing) = ap (λ (x : Tree × Effects). (Block brace x.0 closing, x.1)) (none_effects inside)
 none_effects (IfTree stands word test body) = held (λ x. IfTree stands word test x) body (none_effects body)
-none_effects (ElseTree stands word test body joins other) =
-    ap (λ (x : Tree × Effects). let y = with_effects x.1 other in
+none_effects (ElseTree stands word test body joins other) = ap (λ (x : Tree × Effects). let y = with_effects x.1 other in
     (with_effect (next_effect y.1) (ElseTree stands word test x.0 joins y.0), later_effects y.1)) (none_effects body)
     ∙ held (λ y. ElseTree stands word test body joins y) other (none_effects other)
 none_effects (WhileTree stands word test body) = held (λ x. WhileTree stands word test x) body (none_effects body)
-none_effects (DoTree stands word body joins test semicolon) =
-    held (λ x. DoTree stands word x joins test semicolon) body (none_effects body)
+none_effects (DoTree stands word body joins test semicolon) = held (λ x. DoTree stands word x joins test semicolon) body (none_effects body)
 none_effects (ForTree stands word bracket start one test two step closing body) =
     held (λ x. ForTree stands word bracket start one test two step closing x) body (none_effects body)
 none_effects (LoopTree stands word loop body) = held (λ x. LoopTree stands word loop x) body (none_effects body)

@@ -7,19 +7,7 @@ use Rattle.inf_settings.specs.Bounds.{Limits}
 use Rattle.inf_machine.specs.declared.symbols.Symbol.{Symbol}
 use Rattle.inf_machine.specs.Grammar.{Did, Event, IsOneOf, Leads, Row, Took, action, here, row, token}
 use Rattle.inf_syntax.specs.declared.actions.Action.{Action}
-use Rattle.inf_syntax.specs.Parts.{case_end, do_rest, else_part, end, first_case, first_case_1, first_case_2, first_case_4, for_rest}
-use Rattle.inf_syntax.specs.Parts.{give_rest, if_rest, jump_rest, mark_statement, minus_following, minus_more, minus_more_1, move_rest}
-use Rattle.inf_syntax.specs.Parts.{objectloop_rest, of_expression, outer_following, outer_following_1, outer_more, print_rest, return_rest}
-use Rattle.inf_syntax.specs.Parts.{statement, statement_3, statement_end, string_rest, style_rest, switch_following, switch_item}
-use Rattle.inf_syntax.specs.Parts.{switch_item_1, switch_item_10, switch_item_11, switch_item_12, switch_item_13, switch_item_14}
-use Rattle.inf_syntax.specs.Parts.{switch_item_15, switch_item_17, switch_item_18, switch_item_19, switch_item_2, switch_item_20}
-use Rattle.inf_syntax.specs.Parts.{switch_item_21, switch_item_22, switch_item_24, switch_item_25, switch_item_26, switch_item_3}
-use Rattle.inf_syntax.specs.Parts.{switch_item_4, switch_item_5, switch_item_7, switch_item_8, switch_more, switch_next, switch_next_1}
-use Rattle.inf_syntax.specs.Parts.{switch_rest, switch_word, switch_word_1, text_more, text_statement, text_statement_1, top_following}
-use Rattle.inf_syntax.specs.Parts.{top_following_1, top_item, top_item_1, top_item_10, top_item_12, top_item_13, top_item_14, top_item_15}
-use Rattle.inf_syntax.specs.Parts.{top_item_16, top_item_17, top_item_19, top_item_2, top_item_20, top_item_21, top_item_5, top_item_6}
-use Rattle.inf_syntax.specs.Parts.{top_item_7, top_item_8, top_item_9, top_more, top_next, top_range, top_values, top_word, top_word_1}
-use Rattle.inf_syntax.specs.Parts.{values, while_rest}
+use Rattle.inf_syntax.specs.declared.parts.names.TheConstants as Part
 use Rattle.inf_grammar.specs.Language.{grammar}
 use Rattle.inf_unit.proofs.Cases.{of_both}
 use Rattle.inf_compilation.specs.{Actions.Compilation, Context.Context, Nesting.construct_closed, Nesting.construct_ended}
@@ -39,24 +27,33 @@ last_took b (Took atom ∷ events) = last_took true events
 
 -- rules all of whose texts end so, and those that do behind a token
 abbrev end_rules : List (Symbol Action)
-end_rules =
-    case_end ∷ do_rest ∷ end ∷ for_rest ∷ give_rest ∷ if_rest ∷ jump_rest ∷ mark_statement ∷ move_rest ∷ objectloop_rest ∷
-    of_expression ∷ print_rest ∷ return_rest ∷ statement ∷ statement_3 ∷ statement_end ∷ string_rest ∷ style_rest ∷ switch_rest ∷
-    text_more ∷ text_statement ∷ text_statement_1 ∷ top_following ∷ top_following_1 ∷ top_item ∷ top_item_1 ∷ top_item_10 ∷
-    top_item_12 ∷ top_item_13 ∷ top_item_14 ∷ top_item_15 ∷ top_item_16 ∷ top_item_17 ∷ top_item_19 ∷ top_item_2 ∷ top_item_20 ∷
-    top_item_21 ∷ top_item_5 ∷ top_item_6 ∷ top_item_7 ∷ top_item_8 ∷ top_item_9 ∷ top_more ∷ top_next ∷ top_range ∷ top_values ∷
-    top_word ∷ top_word_1 ∷ while_rest ∷ first_case ∷ first_case_1 ∷ first_case_2 ∷ first_case_4 ∷ values ∷ switch_item ∷ switch_item_1 ∷
-    switch_item_2 ∷ switch_item_3 ∷ switch_item_4 ∷ switch_item_5 ∷ switch_item_7 ∷ switch_item_8 ∷ switch_item_10 ∷ switch_item_11 ∷
-    switch_item_12 ∷ switch_item_13 ∷ switch_item_14 ∷ switch_item_15 ∷ switch_item_17 ∷ switch_item_18 ∷ switch_item_19 ∷ switch_item_20 ∷
-    switch_item_21 ∷ switch_item_22 ∷ switch_item_24 ∷ switch_item_25 ∷ switch_item_26 ∷ switch_word ∷ switch_word_1 ∷ minus_more ∷
-    minus_more_1 ∷ switch_more ∷ outer_more ∷ switch_next ∷ switch_next_1 ∷ minus_following ∷ switch_following ∷ outer_following ∷
-    outer_following_1 ∷ []
+end_rules = Part.CASE_END ∷ Part.DO_REST ∷ Part.END ∷ Part.FOR_REST ∷ Part.GIVE_REST ∷ Part.IF_REST ∷ Part.JUMP_REST ∷ Part.MARK_STATEMENT ∷
+    Part.MOVE_REST ∷ Part.OBJECTLOOP_REST ∷
+    Part.OF_EXPRESSION ∷ Part.PRINT_REST ∷ Part.RETURN_REST ∷ Part.STATEMENT ∷ Part.STATEMENT_3 ∷ Part.STATEMENT_END ∷ Part.STRING_REST ∷
+    Part.STYLE_REST ∷ Part.SWITCH_REST ∷
+    Part.TEXT_MORE ∷ Part.TEXT_STATEMENT ∷ Part.TEXT_STATEMENT_1 ∷ Part.TOP_FOLLOWING ∷ Part.TOP_FOLLOWING_1 ∷ Part.TOP_ITEM ∷
+    Part.TOP_ITEM_1 ∷ Part.TOP_ITEM_10 ∷
+    Part.TOP_ITEM_12 ∷ Part.TOP_ITEM_13 ∷ Part.TOP_ITEM_14 ∷ Part.TOP_ITEM_15 ∷ Part.TOP_ITEM_16 ∷ Part.TOP_ITEM_17 ∷ Part.TOP_ITEM_19 ∷
+    Part.TOP_ITEM_2 ∷ Part.TOP_ITEM_20 ∷
+    Part.TOP_ITEM_21 ∷ Part.TOP_ITEM_5 ∷ Part.TOP_ITEM_6 ∷ Part.TOP_ITEM_7 ∷ Part.TOP_ITEM_8 ∷ Part.TOP_ITEM_9 ∷ Part.TOP_MORE ∷
+    Part.TOP_NEXT ∷ Part.TOP_RANGE ∷ Part.TOP_VALUES ∷
+    Part.TOP_WORD ∷ Part.TOP_WORD_1 ∷ Part.WHILE_REST ∷ Part.FIRST_CASE ∷ Part.FIRST_CASE_1 ∷ Part.FIRST_CASE_2 ∷ Part.FIRST_CASE_4 ∷
+    Part.VALUES ∷ Part.SWITCH_ITEM ∷ Part.SWITCH_ITEM_1 ∷
+    Part.SWITCH_ITEM_2 ∷ Part.SWITCH_ITEM_3 ∷ Part.SWITCH_ITEM_4 ∷ Part.SWITCH_ITEM_5 ∷ Part.SWITCH_ITEM_7 ∷ Part.SWITCH_ITEM_8 ∷
+    Part.SWITCH_ITEM_10 ∷ Part.SWITCH_ITEM_11 ∷
+    Part.SWITCH_ITEM_12 ∷ Part.SWITCH_ITEM_13 ∷ Part.SWITCH_ITEM_14 ∷ Part.SWITCH_ITEM_15 ∷ Part.SWITCH_ITEM_17 ∷ Part.SWITCH_ITEM_18 ∷
+    Part.SWITCH_ITEM_19 ∷ Part.SWITCH_ITEM_20 ∷
+    Part.SWITCH_ITEM_21 ∷ Part.SWITCH_ITEM_22 ∷ Part.SWITCH_ITEM_24 ∷ Part.SWITCH_ITEM_25 ∷ Part.SWITCH_ITEM_26 ∷ Part.SWITCH_WORD ∷
+    Part.SWITCH_WORD_1 ∷ Part.MINUS_MORE ∷
+    Part.MINUS_MORE_1 ∷ Part.SWITCH_MORE ∷ Part.OUTER_MORE ∷ Part.SWITCH_NEXT ∷ Part.SWITCH_NEXT_1 ∷ Part.MINUS_FOLLOWING ∷
+    Part.SWITCH_FOLLOWING ∷ Part.OUTER_FOLLOWING ∷
+    Part.OUTER_FOLLOWING_1 ∷ []
 
 unfoldable pub ends : ℕ → Bool
 ends rule = is_among rule end_rules
 
 unfoldable pub goes_on : ℕ → Bool
-goes_on rule = is_among rule (else_part ∷ [])
+goes_on rule = is_among rule (Part.ELSE_PART ∷ [])
 
 abbrev pub end_so : Bool → List (Symbol Action) → Bool
 end_so b [] = b
@@ -110,8 +107,7 @@ row_ends rule r is b symbols so = by_cases (ends rule) refl
     by_go false e false same = any_parts false r.parts symbols same
 
     by_cases : (x : Bool) → ends rule ≡ x → end_so b (r.parts ++ symbols) ≡ true
-    by_cases true e =
-        end-append b r.parts symbols (behind_any b r.parts (passes ends (end_so false) rows_end rule e r is))
+    by_cases true e = end-append b r.parts symbols (behind_any b r.parts (passes ends (end_so false) rows_end rule e r is))
         (subst (λ x. end_so (x || (b && goes_on rule)) symbols ≡ true) e so)
     by_cases false e = by_go (goes_on rule) refl b (subst (λ x. end_so (x || (b && goes_on rule)) symbols ≡ true) e so)
 
@@ -138,5 +134,4 @@ both_true b a is = let both = and_parts b (is_close a) is in (both.0, close_is a
 
 pub act_opening : (limits : Limits) (context : Context) (place : Place) (a : Action) (w : Compilation) → a ≡ Action.Close
     → w.opening ≡ None → (act limits context place a w).opening ≡ None
-act_opening limits context place a w is none =
-    ap (λ b. (act limits context place b w).opening) is ∙ (close_opening limits w ∙ none)
+act_opening limits context place a w is none = ap (λ b. (act limits context place b w).opening) is ∙ (close_opening limits w ∙ none)

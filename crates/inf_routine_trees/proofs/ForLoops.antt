@@ -6,8 +6,7 @@ use Rattle.inf_scanner.specs.declared.tokens.Place.{Place}
 use Rattle.inf_settings.specs.Bounds.{Limits}
 use Rattle.inf_machine.specs.{Grammar.Event, Grammar.IsText, declared.symbols.Symbol.Symbol}
 use Rattle.inf_syntax.specs.{Rows.row, declared.actions.Action.Action}
-use Rattle.inf_syntax.specs.Parts.{ !close, !end_for_start, !end_for_step, !end_for_test, !for_top, !open_for, 'close_parenthesis'}
-use Rattle.inf_syntax.specs.Parts.{'colon', 'for', 'open_parenthesis', for_rest, for_rest_1, for_rest_2, for_rest_3, statement}
+use Rattle.inf_syntax.specs.declared.parts.names.TheConstants as Part
 use Rattle.inf_grammar.specs.Language.{grammar}
 use Rattle.inf_unit.specs.Units.{Unit as UnitAtHand, no_unit}
 use Rattle.inf_constructs.specs.{Constructs.between, Constructs.opened, declared.constructs.Construct.Construct}
@@ -54,8 +53,7 @@ present limits end place seen events text inside are_seen few =
     let n = nothing_left p.rest e.late e.text in
     let parts = seen_parts p.front p.rest (moved_seen (sym p.same) are_seen) in
     let at : place_before p.rest place ≡ place = ap (λ l. place_before l place) n.none in
-    let unit =
-    λ (u : UnitAtHand). bracketed_units_are_trees limits u p.front p.early p.of_front parts.0 (omega (arith, few, p.count)) in
+    let unit = λ (u : UnitAtHand). bracketed_units_are_trees limits u p.front p.early p.of_front parts.0 (omega (arith, few, p.count)) in
     let hs = happenings_before place p.early p.front in
     let quiet_hs = quiet_text unit_symbols unit_quiet place p.front p.early p.of_front in
     let last : List Happening = Acts (plainly_at place) end ∷ [] in
@@ -67,16 +65,13 @@ present limits end place seen events text inside are_seen few =
       quiet = λ q. quiet-append hs last quiet_hs (and_from (is_quiet end) true q refl);
       step = λ is. StepEnds (record { all = hs; are = quiet_hs }) (plainly_at place);
       step_same = λ is. ap (λ a. hs ++ Acts (plainly_at place) a ∷ []) (sym is);
-      same =
-          p.happen place
-          ∙ (ap (λ x. happenings_before x p.early p.front ++ happenings_before place p.late p.rest) at
+      same = p.happen place ∙ (ap (λ x. happenings_before x p.early p.front ++ happenings_before place p.late p.rest) at
           ∙ ap (λ l. hs ++ l) (e.happen place
           ∙ (ap (λ x. Acts (plainly_at x) end ∷ happenings_before place e.late p.rest) at
           ∙ ap (λ l. Acts (plainly_at place) end ∷ l) (n.happen place))));
       runs = λ context w none.
           run_then limits context hs last w ∙ ap (act limits context place end) ((unit w.unit).does context place w none);
-      closed = λ context w ahead.
-          ap (λ (z : Compilation). z.closed) (run_then limits context hs last w)
+      closed = λ context w ahead. ap (λ (z : Compilation). z.closed) (run_then limits context hs last w)
           ∙ inside_act limits context place end (run limits context hs w) inside ((quiet_run limits context hs w quiet_hs).1 ∙ ahead);
     }
 
@@ -111,72 +106,72 @@ maybe_closed : {limits : Limits} {end : Action} {place : Place} {seen : List See
     → (maybe_done limits context end place m.unit w).closed ≡ 0
 maybe_closed m context w none ahead = ap (λ (z : Compilation). z.closed) (sym (m.runs context w none)) ∙ m.closed context w ahead
 
-start_rows : Rows for_rest_1 (row (unit_symbols ++ !end_for_start ∷ []) ∷ row [] ∷ [])
+start_rows : Rows Part.FOR_REST_1 (row (unit_symbols ++ Part.DO_END_FOR_START ∷ []) ∷ row [] ∷ [])
 unfolding grammar
 start_rows = refl
 
-test_rows : Rows for_rest_2 (row (unit_symbols ++ !end_for_test ∷ []) ∷ row [] ∷ [])
+test_rows : Rows Part.FOR_REST_2 (row (unit_symbols ++ Part.DO_END_FOR_TEST ∷ []) ∷ row [] ∷ [])
 unfolding grammar
 test_rows = refl
 
-step_rows : Rows for_rest_3 (row (unit_symbols ++ !end_for_step ∷ []) ∷ row [] ∷ [])
+step_rows : Rows Part.FOR_REST_3 (row (unit_symbols ++ Part.DO_END_FOR_STEP ∷ []) ∷ row [] ∷ [])
 unfolding grammar
 step_rows = refl
 
 abbrev behind_step : List (Symbol Action)
-behind_step = 'close_parenthesis' ∷ statement ∷ !close ∷ []
+behind_step = Part.CLOSE_PARENTHESIS ∷ Part.STATEMENT ∷ Part.DO_CLOSE ∷ []
 
 abbrev behind_test : List (Symbol Action)
-behind_test = 'colon' ∷ for_rest_3 ∷ behind_step
+behind_test = Part.COLON ∷ Part.FOR_REST_3 ∷ behind_step
 
 abbrev behind_start : List (Symbol Action)
-behind_start = !for_top ∷ 'colon' ∷ for_rest_2 ∷ behind_test
+behind_start = Part.DO_FOR_TOP ∷ Part.COLON ∷ Part.FOR_REST_2 ∷ behind_test
 
 abbrev for_symbols : List (Symbol Action)
-for_symbols = 'open_parenthesis' ∷ for_rest_1 ∷ behind_start
+for_symbols = Part.OPEN_PARENTHESIS ∷ Part.FOR_REST_1 ∷ behind_start
 
 -- The pieces of a `for` behind its word
 record ForText (limits : Limits) (stands : Standing) (next : Place) (seen : List Seen) (events : List (Event Action))
-    (wd : Worded limits stands (for_rest ∷ []) seen events) : Type 0 where
+    (wd : Worded limits stands (Part.FOR_REST ∷ []) seen events) : Type 0 where
   o : ActFirst Action.OpenFor for_symbols wd.rest wd.late
-  t : TokenFirst (for_rest_1 ∷ behind_start) wd.rest o.late
-  p : PartsOf (for_rest_1 ∷ []) behind_start t.rest t.late
-  j : ActFirst Action.ForTop ('colon' ∷ for_rest_2 ∷ behind_test) p.rest p.late
-  c : TokenFirst (for_rest_2 ∷ behind_test) p.rest j.late
-  q : PartsOf (for_rest_2 ∷ []) behind_test c.rest c.late
-  d : TokenFirst (for_rest_3 ∷ behind_step) q.rest q.late
-  r : PartsOf (for_rest_3 ∷ []) behind_step d.rest d.late
-  e : TokenFirst (statement ∷ !close ∷ []) r.rest r.late
+  t : TokenFirst (Part.FOR_REST_1 ∷ behind_start) wd.rest o.late
+  p : PartsOf (Part.FOR_REST_1 ∷ []) behind_start t.rest t.late
+  j : ActFirst Action.ForTop (Part.COLON ∷ Part.FOR_REST_2 ∷ behind_test) p.rest p.late
+  c : TokenFirst (Part.FOR_REST_2 ∷ behind_test) p.rest j.late
+  q : PartsOf (Part.FOR_REST_2 ∷ []) behind_test c.rest c.late
+  d : TokenFirst (Part.FOR_REST_3 ∷ behind_step) q.rest q.late
+  r : PartsOf (Part.FOR_REST_3 ∷ []) behind_step d.rest d.late
+  e : TokenFirst (Part.STATEMENT ∷ Part.DO_CLOSE ∷ []) r.rest r.late
   start : MaybeText limits Action.EndForStart c.s.token.place p.front p.early
   test : MaybeText limits Action.EndForTest d.s.token.place q.front q.early
   step : MaybeText limits Action.EndForStep e.s.token.place r.front r.early
   body : BodyText limits next e.rest e.late
 
 for_text : (limits : Limits) (n : ℕ) → Below limits n → (stands : Standing) (next : Place) (seen : List Seen)
-    (events : List (Event Action)) → (wd : Worded limits stands (for_rest ∷ []) seen events)
-    → IsText grammar (!open_for ∷ for_symbols) (atoms_of wd.rest) wd.late → AreAll seen → length seen + 1 < 4294967295
+    (events : List (Event Action)) → (wd : Worded limits stands (Part.FOR_REST ∷ []) seen events)
+    → IsText grammar (Part.DO_OPEN_FOR ∷ for_symbols) (atoms_of wd.rest) wd.late → AreAll seen → length seen + 1 < 4294967295
     → length seen ≤ suc n → ForText limits stands next seen events wd
 for_text limits n below stands next seen events wd text are_seen few fewer =
     let all = moved_seen (sym wd.same) are_seen in
     let count : suc (length wd.rest) ≡ length seen = ap length wd.same in
     let o = act_first Action.OpenFor for_symbols wd.rest wd.late text in
-    let t = token_first (for_rest_1 ∷ behind_start) wd.rest o.late o.text in
+    let t = token_first (Part.FOR_REST_1 ∷ behind_start) wd.rest o.late o.text in
     let t_count : suc (length t.rest) ≡ length wd.rest = ap length t.same in
     let seen_1 = moved_seen (sym t.same) all.1 in
-    let p = parts_of (for_rest_1 ∷ []) behind_start t.rest t.late t.text in
+    let p = parts_of (Part.FOR_REST_1 ∷ []) behind_start t.rest t.late t.text in
     let seen_2 = seen_parts p.front p.rest (moved_seen (sym p.same) seen_1.1) in
-    let j = act_first Action.ForTop ('colon' ∷ for_rest_2 ∷ behind_test) p.rest p.late p.of_rest in
-    let c = token_first (for_rest_2 ∷ behind_test) p.rest j.late j.text in
+    let j = act_first Action.ForTop (Part.COLON ∷ Part.FOR_REST_2 ∷ behind_test) p.rest p.late p.of_rest in
+    let c = token_first (Part.FOR_REST_2 ∷ behind_test) p.rest j.late j.text in
     let c_count : suc (length c.rest) ≡ length p.rest = ap length c.same in
     let seen_3 = moved_seen (sym c.same) seen_2.1 in
-    let q = parts_of (for_rest_2 ∷ []) behind_test c.rest c.late c.text in
+    let q = parts_of (Part.FOR_REST_2 ∷ []) behind_test c.rest c.late c.text in
     let seen_4 = seen_parts q.front q.rest (moved_seen (sym q.same) seen_3.1) in
-    let d = token_first (for_rest_3 ∷ behind_step) q.rest q.late q.of_rest in
+    let d = token_first (Part.FOR_REST_3 ∷ behind_step) q.rest q.late q.of_rest in
     let d_count : suc (length d.rest) ≡ length q.rest = ap length d.same in
     let seen_5 = moved_seen (sym d.same) seen_4.1 in
-    let r = parts_of (for_rest_3 ∷ []) behind_step d.rest d.late d.text in
+    let r = parts_of (Part.FOR_REST_3 ∷ []) behind_step d.rest d.late d.text in
     let seen_6 = seen_parts r.front r.rest (moved_seen (sym r.same) seen_5.1) in
-    let e = token_first (statement ∷ !close ∷ []) r.rest r.late r.of_rest in
+    let e = token_first (Part.STATEMENT ∷ Part.DO_CLOSE ∷ []) r.rest r.late r.of_rest in
     let e_count : suc (length e.rest) ≡ length r.rest = ap length e.same in
     let seen_7 = moved_seen (sym e.same) seen_6.1 in
     let few_1 : length t.rest + 1 < 4294967295 = omega (arith, few, count, t_count) in
@@ -185,13 +180,13 @@ for_text limits n below stands next seen events wd text are_seen few fewer =
     let few_4 : length e.rest + 1 < 4294967295 = omega (arith, few_3, r.count, e_count) in
     let fewer_4 : length e.rest ≤ n = omega (arith, fewer, count, t_count, p.count, c_count, q.count, d_count, r.count, e_count) in
     let start =
-    maybe_text limits Action.EndForStart (number for_rest_1) start_rows c.s.token.place p.front p.early p.of_front refl seen_2.0
+    maybe_text limits Action.EndForStart (number Part.FOR_REST_1) start_rows c.s.token.place p.front p.early p.of_front refl seen_2.0
     (omega (arith, few_1, p.count)) in
     let test =
-    maybe_text limits Action.EndForTest (number for_rest_2) test_rows d.s.token.place q.front q.early q.of_front refl seen_4.0
+    maybe_text limits Action.EndForTest (number Part.FOR_REST_2) test_rows d.s.token.place q.front q.early q.of_front refl seen_4.0
     (omega (arith, few_2, q.count)) in
     let step =
-    maybe_text limits Action.EndForStep (number for_rest_3) step_rows e.s.token.place r.front r.early r.of_front refl seen_6.0
+    maybe_text limits Action.EndForStep (number Part.FOR_REST_3) step_rows e.s.token.place r.front r.early r.of_front refl seen_6.0
     (omega (arith, few_3, r.count)) in
     let body = body_text limits n below next e.rest e.late e.text seen_7.1 few_4 fewer_4 in
     record {
@@ -211,7 +206,7 @@ for_text limits n below stands next seen events wd text are_seen few fewer =
     }
 
 module _ {limits : Limits} {stands : Standing} {next : Place} {seen : List Seen} {events : List (Event Action)}
-    {wd : Worded limits stands (for_rest ∷ []) seen events} (x : ForText limits stands next seen events wd) where
+    {wd : Worded limits stands (Part.FOR_REST ∷ []) seen events} (x : ForText limits stands next seen events wd) where
   abbrev start_quiet : Quiet
   start_quiet = record { all = Takes x.t.s.token x.t.s.behind ∷ x.start.happens; are = x.start.quiet refl }
 
@@ -252,24 +247,20 @@ module _ {limits : Limits} {stands : Standing} {next : Place} {seen : List Seen}
   nested_for {b} = with_body {b = b} x.body.nested (plainly_at next)
 
   from_step : happenings_before next x.d.late x.d.rest ≡ behind_second
-  from_step =
-      x.r.happen next
+  from_step = x.r.happen next
       ∙ (ap (λ y. happenings_before y x.r.early x.r.front ++ happenings_before next x.r.late x.r.rest) (x.e.place next)
       ∙ (ap (λ l. l ++ happenings_before next x.r.late x.r.rest) (x.step.same ∙ sym (x.step.step_same refl))
       ∙ ap (λ l. step_happenings step_is ++ l) (x.e.happen next ∙ ap (λ l. Takes x.e.s.token x.e.s.behind ∷ l) x.body.happen)))
 
   from_test : happenings_before next x.c.late x.c.rest ≡ (x.test.happens ++ between_colons) ++ behind_second
-  from_test =
-      x.q.happen next
+  from_test = x.q.happen next
       ∙ (ap (λ y. happenings_before y x.q.early x.q.front ++ happenings_before next x.q.late x.q.rest) (x.d.place next)
       ∙ (ap (λ l. l ++ happenings_before next x.q.late x.q.rest) x.test.same
       ∙ (ap (λ l. x.test.happens ++ l) (x.d.happen next ∙ ap (λ l. Takes x.d.s.token x.d.s.behind ∷ l) from_step)
       ∙ sym (append_assoc x.test.happens between_colons behind_second))))
 
-  from_start : happenings_before next x.t.late x.t.rest
-      ≡ x.start.happens ++ Acts top_at Action.ForTop ∷ (test_quiet.all ++ behind_second)
-  from_start =
-      x.p.happen next
+  from_start : happenings_before next x.t.late x.t.rest ≡ x.start.happens ++ Acts top_at Action.ForTop ∷ (test_quiet.all ++ behind_second)
+  from_start = x.p.happen next
       ∙ (ap (λ y. happenings_before y x.p.early x.p.front ++ happenings_before next x.p.late x.p.rest) (x.c.place next)
       ∙ (ap (λ l. l ++ happenings_before next x.p.late x.p.rest) x.start.same
       ∙ ap (λ l. x.start.happens ++ l) (x.j.happen next
@@ -277,9 +268,7 @@ module _ {limits : Limits} {stands : Standing} {next : Place} {seen : List Seen}
       ∙ ap (λ l. Acts top_at Action.ForTop ∷ l) (x.c.happen next ∙ ap (λ l. Takes x.c.s.token x.c.s.behind ∷ l) from_test)))))
 
   for_same : (b : Bool) → happenings_before next events seen ≡ word_happens stands wd.word ++ happenings (nested_for {b = b})
-  for_same b =
-      wd.happen next
-      ∙ ap (λ y. word_happens stands wd.word ++ y) (x.o.happen next
+  for_same b = wd.happen next ∙ ap (λ y. word_happens stands wd.word ++ y) (x.o.happen next
       ∙ (ap (λ y. Acts (plainly_at y) Action.OpenFor ∷ happenings_before next x.o.late wd.rest) (x.t.place next)
       ∙ ap (λ y. Acts opens Action.OpenFor ∷ y) (x.t.happen next ∙ ap (λ y. Takes x.t.s.token x.t.s.behind ∷ y) from_start)))
 
@@ -342,7 +331,8 @@ module _ {limits : Limits} {stands : Standing} {next : Place} {seen : List Seen}
       (x.body.lays effects context (token_done context x.e.s inside) (took_none context x.e.s.token inside ∙ stepped_closed) refl))))
 
 for_built : {b : Bool} (limits : Limits) (stands : Standing) (next : Place) (seen : List Seen) (events : List (Event Action))
-    (wd : Worded limits stands (for_rest ∷ []) seen events) → ForText limits stands next seen events wd → IsTree b limits next seen events
+    (wd : Worded limits stands (Part.FOR_REST ∷
+    []) seen events) → ForText limits stands next seen events wd → IsTree b limits next seen events
 for_built {b} limits stands next seen events wd x = record {
   tree = ForTree stands wd.word x.t.s x.start.unit x.c.s x.test.unit x.d.s x.step.unit x.e.s x.body.tree;
   all = for_all x;
@@ -360,11 +350,11 @@ for_built {b} limits stands next seen events wd x = record {
 }
 
 pub for_tree : {b : Bool} (limits : Limits) (n : ℕ) → Below limits n → (stands : Standing) (next : Place) (seen : List Seen)
-    (events : List (Event Action)) → IsText grammar (before_word stands ++ 'for' ∷ for_rest ∷ []) (atoms_of seen) events
+    (events : List (Event Action)) → IsText grammar (before_word stands ++ Part.WORD_FOR ∷ Part.FOR_REST ∷ []) (atoms_of seen) events
     → AreAll seen → length seen + 1 < 4294967295 → length seen ≤ suc n → IsTree b limits next seen events
 unfolding grammar
 for_tree {b} limits n below stands next seen events text are_seen few fewer =
-    let wd = worded limits stands _ (for_rest ∷ []) seen events text in
-    by_rows (IsTree b limits next seen events) (number for_rest)
+    let wd = worded limits stands _ (Part.FOR_REST ∷ []) seen events text in
+    by_rows (IsTree b limits next seen events) (number Part.FOR_REST)
     ((λ t. for_built limits stands next seen events wd (for_text limits n below stands next seen events wd t are_seen few fewer)), tt)
     wd.text

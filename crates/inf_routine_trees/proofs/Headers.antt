@@ -4,7 +4,7 @@ use Rattle.inf_scanner.specs.declared.tokens.Place.{Place}
 use Rattle.inf_settings.specs.Bounds.{Limits}
 use Rattle.inf_machine.specs.Grammar.{Event, IsText}
 use Rattle.inf_syntax.specs.declared.actions.Action.{Action}
-use Rattle.inf_syntax.specs.Parts.{ !local, 'open_bracket', NAME, directive_1}
+use Rattle.inf_syntax.specs.declared.parts.names.TheConstants as Part
 use Rattle.inf_grammar.specs.Language.{grammar}
 use Rattle.inf_unit.specs.{Units.Unit as UnitAtHand, Units.noted, Units.taken, declared.roles.Note.Note}
 use Rattle.inf_compilation.specs.{Actions.Compilation, Context.Context}
@@ -27,19 +27,19 @@ no_locals : (limits : Limits) (seen : List Seen) (events : List (Event Action)) 
 no_locals limits seen events text =
     let n = nothing_left seen events text in
     record {
-      runs = λ context next u w none.
-          ap (λ hs. run limits context hs (record w { unit = u })) (n.happen next)
+      runs = λ context next u w none. ap (λ hs. run limits context hs (record w { unit = u })) (n.happen next)
           ∙ ap (λ l. record (parts_told context u (local_parts l) w) { unit = with_parts (local_parts l) u }) (sym n.none);
     }
 
 local_by : (limits : Limits) (n : ℕ)
-    → ((seen : List Seen) (events : List (Event Action)) → IsText grammar (directive_1 ∷ []) (atoms_of seen) events → length seen ≤ n
+    → ((seen : List Seen) (events : List (Event Action)) → IsText grammar (Part.DIRECTIVE_1 ∷ []) (atoms_of seen) events → length seen ≤ n
     → Locals limits seen events)
-    → (seen : List Seen) (events : List (Event Action)) → IsText grammar (NAME ∷ !local ∷ directive_1 ∷ []) (atoms_of seen) events
+    → (seen : List Seen) (events : List (Event Action)) → IsText grammar (Part.NAME ∷ Part.DO_LOCAL ∷ Part.DIRECTIVE_1 ∷
+    []) (atoms_of seen) events
     → length seen ≤ suc n → Locals limits seen events
 local_by limits n others seen events text few =
-    let t = token_first (!local ∷ directive_1 ∷ []) seen events text in
-    let a = act_first Action.Local (directive_1 ∷ []) t.rest t.late t.text in
+    let t = token_first (Part.DO_LOCAL ∷ Part.DIRECTIVE_1 ∷ []) seen events text in
+    let a = act_first Action.Local (Part.DIRECTIVE_1 ∷ []) t.rest t.late t.text in
     let count : suc (length t.rest) ≡ length seen = ap length t.same in
     let on = others t.rest a.late a.text (omega (arith, few, count)) in
     record {
@@ -56,21 +56,20 @@ local_by limits n others seen events text few =
     }
 
 locals_read : (limits : Limits) (n : ℕ) (seen : List Seen) (events : List (Event Action))
-    → IsText grammar (directive_1 ∷ []) (atoms_of seen) events → length seen ≤ n → Locals limits seen events
+    → IsText grammar (Part.DIRECTIVE_1 ∷ []) (atoms_of seen) events → length seen ≤ n → Locals limits seen events
 unfolding grammar
 locals_read limits zero seen events text few =
-    by_rows (Locals limits seen events) (number directive_1) ((λ t. no_more t), ((λ t. no_locals limits seen events t), tt)) text
+    by_rows (Locals limits seen events) (number Part.DIRECTIVE_1) ((λ t. no_more t), ((λ t. no_locals limits seen events t), tt)) text
   where
     none : 1 ≤ 0 → ⊥
     none e = omega (arith, e)
 
-    no_more : IsText grammar (NAME ∷ !local ∷ directive_1 ∷ []) (atoms_of seen) events → Locals limits seen events
+    no_more : IsText grammar (Part.NAME ∷ Part.DO_LOCAL ∷ Part.DIRECTIVE_1 ∷ []) (atoms_of seen) events → Locals limits seen events
     no_more t =
-        let f = token_first (!local ∷ directive_1 ∷ []) seen events t in
+        let f = token_first (Part.DO_LOCAL ∷ Part.DIRECTIVE_1 ∷ []) seen events t in
         let count : suc (length f.rest) ≡ length seen = ap length f.same in
         absurd (none (omega (arith, few, count)))
-locals_read limits (suc n) seen events text few =
-    by_rows (Locals limits seen events) (number directive_1)
+locals_read limits (suc n) seen events text few = by_rows (Locals limits seen events) (number Part.DIRECTIVE_1)
     ((λ t. local_by limits n (locals_read limits n) seen events t few), ((λ t. no_locals limits seen events t), tt)) text
 
 -- A header before its end
@@ -87,9 +86,9 @@ pub record HeaderText (limits : Limits) (seen : List Seen) (events : List (Event
 pub header_text : (limits : Limits) (seen : List Seen) (events : List (Event Action)) → IsText grammar header_symbols (atoms_of seen) events
     → HeaderText limits seen events
 header_text limits seen events text =
-    let r = act_first Action.Routine ('open_bracket' ∷ NAME ∷ directive_1 ∷ []) seen events text in
-    let b = token_first (NAME ∷ directive_1 ∷ []) seen r.late r.text in
-    let n = token_first (directive_1 ∷ []) b.rest b.late b.text in
+    let r = act_first Action.Routine (Part.OPEN_BRACKET ∷ Part.NAME ∷ Part.DIRECTIVE_1 ∷ []) seen events text in
+    let b = token_first (Part.NAME ∷ Part.DIRECTIVE_1 ∷ []) seen r.late r.text in
+    let n = token_first (Part.DIRECTIVE_1 ∷ []) b.rest b.late b.text in
     let l = locals_read limits (length n.rest) n.rest n.late n.text (omega arith) in
     record {
       bracket = b.s;

@@ -62,12 +62,10 @@ items_by limits item list ends next seen events p head rest =
     record {
       list = record {
         tree = Then head.tree rest.list.tree;
-        all =
-            ap (λ l. l ++ tree_seen rest.list.tree) head.all ∙ (ap (λ l. p.front ++ l) rest.list.all ∙ p.same);
+        all = ap (λ l. l ++ tree_seen rest.list.tree) head.all ∙ (ap (λ l. p.front ++ l) rest.list.all ∙ p.same);
         written = (head.written, rest.list.written);
         nested = After head.nested rest.list.nested;
-        same =
-            ap (λ l. l ++ happenings rest.list.nested) head.same
+        same = ap (λ l. l ++ happenings rest.list.nested) head.same
             ∙ (ap (λ l. happenings_before place p.early p.front ++ l) rest.list.same ∙ sym (p.happen next));
         lays = λ effects context w ahead none.
             let x = put effects head.nested in
@@ -77,8 +75,7 @@ items_by limits item list ends next seen events p head rest =
             (tree_closed limits place p.front p.early head effects context w ahead none)
             (tree_opening limits place p.front p.early head all last effects context w ahead none)
             ∙ ap (λ r. tree_laid limits context (with_effects r rest.list.tree).0 (tree_laid limits context y.0 w)) (head.rests effects));
-        rests = λ effects.
-            rest.list.rests (put effects head.nested).1 ∙ ap (λ r. (with_effects r rest.list.tree).1) (head.rests effects);
+        rests = λ effects. rest.list.rests (put effects head.nested).1 ∙ ap (λ r. (with_effects r rest.list.tree).1) (head.rests effects);
       };
       opening = λ effects context w ahead none.
           rest.opening (with_effects effects head.tree).1 context (tree_laid limits context (with_effects effects head.tree).0 w)

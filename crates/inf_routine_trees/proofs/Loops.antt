@@ -5,9 +5,7 @@ use Rattle.inf_scanner.specs.declared.tokens.Place.{Place}
 use Rattle.inf_settings.specs.Bounds.{Limits}
 use Rattle.inf_machine.specs.{Grammar.Event, Grammar.IsText, declared.symbols.Symbol.Symbol}
 use Rattle.inf_syntax.specs.{Rows.row, declared.actions.Action.Action}
-use Rattle.inf_syntax.specs.Parts.{ !begin, !close, !end_until, !open_do, !outer, !until, 'close_brace', 'close_parenthesis', 'do'}
-use Rattle.inf_syntax.specs.Parts.{'open_brace', 'open_parenthesis', 'semicolon', 'until', do_rest, expression, mark_statement_1}
-use Rattle.inf_syntax.specs.Parts.{statement}
+use Rattle.inf_syntax.specs.declared.parts.names.TheConstants as Part
 use Rattle.inf_grammar.specs.Language.{grammar}
 use Rattle.inf_constructs.specs.{Constructs.between, Constructs.opened, declared.constructs.Kind.Kind}
 use Rattle.inf_compilation.specs.Actions.{Compilation}
@@ -28,17 +26,17 @@ use Rattle.inf_routine_trees.proofs.Pieces.{test_quiet, test_runs, word_happens,
 use Rattle.inf_routine_trees.proofs.Trees.{AreAll, Below, IsTree, moved_seen, word_closed, word_quiet}
 use Rattle.inf_routine_trees.proofs.Wider.{wider, wider_laid, wider_put, wider_same}
 
-pub statement_ends : end_so false (statement ∷ []) ≡ true
+pub statement_ends : end_so false (Part.STATEMENT ∷ []) ≡ true
 unfolding ends
 statement_ends = refl
 
 -- Lemmas about a `do`
 
 abbrev until_front : List (Symbol Action)
-until_front = 'open_parenthesis' ∷ !begin ∷ !outer ∷ expression ∷ !end_until ∷ 'close_parenthesis' ∷ []
+until_front = Part.OPEN_PARENTHESIS ∷ Part.DO_BEGIN ∷ Part.DO_OUTER ∷ Part.EXPRESSION ∷ Part.DO_END_UNTIL ∷ Part.CLOSE_PARENTHESIS ∷ []
 
 abbrev do_symbols : List (Symbol Action)
-do_symbols = statement ∷ 'until' ∷ !until ∷ (until_front ++ 'semicolon' ∷ !close ∷ [])
+do_symbols = Part.STATEMENT ∷ Part.WORD_UNTIL ∷ Part.DO_UNTIL ∷ (until_front ++ Part.SEMICOLON ∷ Part.DO_CLOSE ∷ [])
 
 -- the first token of a body, where there is one, and else that behind it
 first_place : (next : Place) (front rest : List Seen) (s : Seen) → place_before rest next ≡ s.token.place
@@ -47,26 +45,25 @@ first_place next [] rest s is = ap plainly_at is
 first_place next (x ∷ front) rest s is = refl
 
 do_row_tree : {b : Bool} (limits : Limits) (n : ℕ) → Below limits n → (stands : Standing) (next : Place) (seen : List Seen)
-    (events : List (Event Action)) → (wd : Worded limits stands (do_rest ∷ []) seen events)
-    → IsText grammar (!open_do ∷ do_symbols) (atoms_of wd.rest) wd.late → AreAll seen → length seen + 1 < 4294967295
+    (events : List (Event Action)) → (wd : Worded limits stands (Part.DO_REST ∷ []) seen events)
+    → IsText grammar (Part.DO_OPEN_DO ∷ do_symbols) (atoms_of wd.rest) wd.late → AreAll seen → length seen + 1 < 4294967295
     → length seen ≤ suc n → IsTree b limits next seen events
 do_row_tree {b} limits n below stands next seen events wd text are_seen few fewer =
     let all = moved_seen (sym wd.same) are_seen in
     let count : suc (length wd.rest) ≡ length seen = ap length wd.same in
     let o = act_first Action.OpenDo do_symbols wd.rest wd.late text in
-    let p = parts_of (statement ∷ []) ('until' ∷ !until ∷ (until_front ++ 'semicolon' ∷ !close ∷ [])) wd.rest o.late o.text in
+    let p = parts_of (Part.STATEMENT ∷ []) (Part.WORD_UNTIL ∷ Part.DO_UNTIL ∷ (until_front ++ Part.SEMICOLON ∷ Part.DO_CLOSE ∷
+    [])) wd.rest o.late o.text in
     let parts = seen_parts p.front p.rest (moved_seen (sym p.same) all.1) in
-    let u = token_first (!until ∷ (until_front ++ 'semicolon' ∷ !close ∷ [])) p.rest p.late p.of_rest in
+    let u = token_first (Part.DO_UNTIL ∷ (until_front ++ Part.SEMICOLON ∷ Part.DO_CLOSE ∷ [])) p.rest p.late p.of_rest in
     let behind = moved_seen (sym u.same) parts.1 in
     let u_count : suc (length u.rest) ≡ length p.rest = ap length u.same in
-    let j = act_first Action.Until (until_front ++ 'semicolon' ∷ !close ∷ []) u.rest u.late u.text in
-    let t =
-    bracketed_text limits Action.EndUntil ('semicolon' ∷ !close ∷ []) u.rest j.late j.text behind.1
+    let j = act_first Action.Until (until_front ++ Part.SEMICOLON ∷ Part.DO_CLOSE ∷ []) u.rest u.late u.text in
+    let t = bracketed_text limits Action.EndUntil (Part.SEMICOLON ∷ Part.DO_CLOSE ∷ []) u.rest j.late j.text behind.1
     (omega (arith, few, count, p.count, u_count)) in
-    let s = token_first (!close ∷ []) t.rest t.late t.text in
+    let s = token_first (Part.DO_CLOSE ∷ []) t.rest t.late t.text in
     let c = closed_text s.rest s.late s.text in
-    let inner =
-    below (place_before p.rest next) p.front p.early p.of_front parts.0 (omega (arith, few, count, p.count))
+    let inner = below (place_before p.rest next) p.front p.early p.of_front parts.0 (omega (arith, few, count, p.count))
     (omega (arith, fewer, count, p.count)) in
     let last : List Happening = Takes s.s.token s.s.behind ∷ [] in
     let q : Quiet = record { all = test_happens t ++ last; are = quiet-append (test_happens t) last (test_quiet t refl) refl } in
@@ -76,8 +73,7 @@ do_row_tree {b} limits n below stands next seen events wd text are_seen few fewe
     let closes = plainly_at next in
     let word = word_happens stands wd.word in
     let closing : List Happening = Acts closes Action.Close ∷ [] in
-    let opens_are : plainly_at (place_before wd.rest next) ≡ opens =
-    ap (λ l. plainly_at (place_before l next)) (sym p.same)
+    let opens_are : plainly_at (place_before wd.rest next) ≡ opens = ap (λ l. plainly_at (place_before l next)) (sym p.same)
     ∙ (first_place next p.front p.rest u.s (u.place next) ∙ ap (λ l. moment_before l u.s) (sym inner.all)) in
     let until_happens : happenings_before next p.late p.rest
     ≡ Takes u.s.token u.s.behind ∷ Acts at Action.Until ∷ (q.all ++ closing) =
@@ -89,17 +85,14 @@ do_row_tree {b} limits n below stands next seen events wd text are_seen few fewe
     ∙ sym (append_assoc (test_happens t) last closing))))) in
     record {
       tree = DoTree stands wd.word inner.tree u.s t.tree s.s;
-      all =
-          ap (λ l. wd.word ∷ (l ++ u.s ∷ (bracketed_seen t.tree ++ s.s ∷ []))) inner.all
+      all = ap (λ l. wd.word ∷ (l ++ u.s ∷ (bracketed_seen t.tree ++ s.s ∷ []))) inner.all
           ∙ (ap (λ l. wd.word ∷ (p.front ++ u.s ∷ (bracketed_seen t.tree ++ s.s ∷ l))) (sym c.none)
           ∙ (ap (λ l. wd.word ∷ (p.front ++ u.s ∷ (bracketed_seen t.tree ++ l))) s.same
           ∙ (ap (λ l. wd.word ∷ (p.front ++ u.s ∷ l)) t.same
           ∙ (ap (λ l. wd.word ∷ (p.front ++ l)) u.same ∙ (ap (λ l. wd.word ∷ l) p.same ∙ wd.same)))));
       written = (inner.written, t.written);
       nested = After (Plain (word_quiet wd)) (Do opens inner.nested word_2 at q closes);
-      same =
-          sym (wd.happen next
-          ∙ ap (λ l. word ++ l) (o.happen next
+      same = sym (wd.happen next ∙ ap (λ l. word ++ l) (o.happen next
           ∙ (ap (λ x. Acts x Action.OpenDo ∷ happenings_before next o.late wd.rest) opens_are
           ∙ ap (λ l. Acts opens Action.OpenDo ∷ l) (p.happen next
           ∙ (ap (λ l. l ++ happenings_before next p.late p.rest) (sym inner.same) ∙ ap (λ l. happenings inner.nested ++ l)
@@ -136,44 +129,43 @@ do_row_tree {b} limits n below stands next seen events wd text are_seen few fewe
     }
 
 pub do_tree : {b : Bool} (limits : Limits) (n : ℕ) → Below limits n → (stands : Standing) (next : Place) (seen : List Seen)
-    (events : List (Event Action)) → IsText grammar (before_word stands ++ 'do' ∷ do_rest ∷ []) (atoms_of seen) events
+    (events : List (Event Action)) → IsText grammar (before_word stands ++ Part.WORD_DO ∷ Part.DO_REST ∷ []) (atoms_of seen) events
     → AreAll seen → length seen + 1 < 4294967295 → length seen ≤ suc n → IsTree b limits next seen events
 unfolding grammar
 do_tree {b} limits n below stands next seen events text are_seen few fewer =
-    let wd = worded limits stands _ (do_rest ∷ []) seen events text in
-    by_rows (IsTree b limits next seen events) (number do_rest)
+    let wd = worded limits stands _ (Part.DO_REST ∷ []) seen events text in
+    by_rows (IsTree b limits next seen events) (number Part.DO_REST)
     ((λ t. do_row_tree limits n below stands next seen events wd t are_seen few fewer), tt) wd.text
 
 -- Lemmas about statements in braces
 
-block_rows : Rows mark_statement_1 (row (statement ∷ mark_statement_1 ∷ []) ∷ row [] ∷ [])
+block_rows : Rows Part.MARK_STATEMENT_1 (row (Part.STATEMENT ∷ Part.MARK_STATEMENT_1 ∷ []) ∷ row [] ∷ [])
 unfolding grammar
 block_rows = refl
 
 module _ (limits : Limits) (n : ℕ) (below : Below limits n) where
   pub block_tree : {b : Bool} (next : Place) (seen : List Seen) (events : List (Event Action))
-      → IsText grammar ('open_brace' ∷ mark_statement_1 ∷ 'close_brace' ∷ []) (atoms_of seen) events → AreAll seen
+      → IsText grammar (Part.OPEN_BRACE ∷ Part.MARK_STATEMENT_1 ∷ Part.CLOSE_BRACE ∷ []) (atoms_of seen) events → AreAll seen
       → length seen + 1 < 4294967295 → length seen ≤ suc n → IsTree b limits next seen events
   block_tree {b} next seen events text are_seen few fewer =
-      let o = token_first (mark_statement_1 ∷ 'close_brace' ∷ []) seen events text in
+      let o = token_first (Part.MARK_STATEMENT_1 ∷ Part.CLOSE_BRACE ∷ []) seen events text in
       let all = moved_seen (sym o.same) are_seen in
       let count : suc (length o.rest) ≡ length seen = ap length o.same in
-      let p = parts_of (mark_statement_1 ∷ []) ('close_brace' ∷ []) o.rest o.late o.text in
+      let p = parts_of (Part.MARK_STATEMENT_1 ∷ []) (Part.CLOSE_BRACE ∷ []) o.rest o.late o.text in
       let parts = seen_parts p.front p.rest (moved_seen (sym p.same) all.1) in
       let c = token_first [] p.rest p.late p.of_rest in
       let e = nothing_left c.rest c.late c.text in
       let place = place_before p.rest next in
       let inner =
-      list_trees limits statement statement_ends (number mark_statement_1) block_rows n below n place p.front p.early p.of_front parts.0
+      list_trees limits Part.STATEMENT statement_ends (number Part.MARK_STATEMENT_1) block_rows n below n place p.front p.early p.of_front
+      parts.0
       (omega (arith, few, count, p.count)) (omega (arith, fewer, count, p.count))
       (omega (arith, fewer, count, p.count)) in
       let front_quiet : Quiet = record { all = Takes o.s.token o.s.behind ∷ []; are = refl } in
       let last_quiet : Quiet = record { all = Takes c.s.token c.s.behind ∷ []; are = refl } in
       record {
         tree = Block o.s inner.list.tree c.s;
-        all =
-            ap (λ l. o.s ∷ (l ++ c.s ∷ [])) inner.list.all
-            ∙ (ap (λ l. o.s ∷ (p.front ++ c.s ∷ l)) (sym e.none)
+        all = ap (λ l. o.s ∷ (l ++ c.s ∷ [])) inner.list.all ∙ (ap (λ l. o.s ∷ (p.front ++ c.s ∷ l)) (sym e.none)
             ∙ (ap (λ l. o.s ∷ (p.front ++ l)) c.same ∙ (ap (λ l. o.s ∷ l) p.same ∙ o.same)));
         written = inner.list.written;
         nested = After (Plain front_quiet) (After (wider b inner.list.nested) (Plain last_quiet));

@@ -4,8 +4,7 @@ use Rattle.inf_scanner.specs.declared.tokens.Place.{Place}
 use Rattle.inf_settings.specs.Bounds.{Limits}
 use Rattle.inf_machine.specs.{Grammar.Event, Grammar.IsText, declared.symbols.Symbol.Symbol}
 use Rattle.inf_syntax.specs.declared.actions.Action.{Action}
-use Rattle.inf_syntax.specs.Parts.{ !close, !end_objectloop, !loop, !open_objectloop, 'close_parenthesis', 'objectloop'}
-use Rattle.inf_syntax.specs.Parts.{'open_parenthesis', objectloop_rest, statement}
+use Rattle.inf_syntax.specs.declared.parts.names.TheConstants as Part
 use Rattle.inf_grammar.specs.Language.{grammar}
 use Rattle.inf_unit.specs.Units.{Unit as UnitAtHand, no_unit}
 use Rattle.inf_constructs.specs.{Constructs.between, Constructs.opened, declared.constructs.Kind.Kind, declared.constructs.Over.Over}
@@ -26,14 +25,14 @@ use Rattle.inf_routine_trees.proofs.Pieces.{Worded, before_word, quiet_text, uni
 use Rattle.inf_routine_trees.proofs.Trees.{AreAll, Below, IsTree, body_text, moved_seen, word_closed, word_quiet}
 
 abbrev behind_unit : List (Symbol Action)
-behind_unit = !end_objectloop ∷ !loop ∷ 'close_parenthesis' ∷ statement ∷ !close ∷ []
+behind_unit = Part.DO_END_OBJECTLOOP ∷ Part.DO_LOOP ∷ Part.CLOSE_PARENTHESIS ∷ Part.STATEMENT ∷ Part.DO_CLOSE ∷ []
 
 abbrev loop_symbols : List (Symbol Action)
-loop_symbols = 'open_parenthesis' ∷ (unit_symbols ++ behind_unit)
+loop_symbols = Part.OPEN_PARENTHESIS ∷ (unit_symbols ++ behind_unit)
 
 loop_row_tree : {b : Bool} (limits : Limits) (n : ℕ) → Below limits n → (stands : Standing) (next : Place) (seen : List Seen)
-    (events : List (Event Action)) → (wd : Worded limits stands (objectloop_rest ∷ []) seen events)
-    → IsText grammar (!open_objectloop ∷ loop_symbols) (atoms_of wd.rest) wd.late → AreAll seen → length seen + 1 < 4294967295
+    (events : List (Event Action)) → (wd : Worded limits stands (Part.OBJECTLOOP_REST ∷ []) seen events)
+    → IsText grammar (Part.DO_OPEN_OBJECTLOOP ∷ loop_symbols) (atoms_of wd.rest) wd.late → AreAll seen → length seen + 1 < 4294967295
     → length seen ≤ suc n → IsTree b limits next seen events
 loop_row_tree {b} limits n below stands next seen events wd text are_seen few fewer =
     let all = moved_seen (sym wd.same) are_seen in
@@ -44,18 +43,17 @@ loop_row_tree {b} limits n below stands next seen events wd text are_seen few fe
     let seen_1 = moved_seen (sym t.same) all.1 in
     let p = parts_of unit_symbols behind_unit t.rest t.late t.text in
     let seen_2 = seen_parts p.front p.rest (moved_seen (sym p.same) seen_1.1) in
-    let e = act_first Action.EndObjectloop (!loop ∷ 'close_parenthesis' ∷ statement ∷ !close ∷ []) p.rest p.late p.of_rest in
-    let l = act_first Action.Loop ('close_parenthesis' ∷ statement ∷ !close ∷ []) p.rest e.late e.text in
-    let c = token_first (statement ∷ !close ∷ []) p.rest l.late l.text in
+    let e = act_first Action.EndObjectloop (Part.DO_LOOP ∷ Part.CLOSE_PARENTHESIS ∷ Part.STATEMENT ∷ Part.DO_CLOSE ∷
+    []) p.rest p.late p.of_rest in
+    let l = act_first Action.Loop (Part.CLOSE_PARENTHESIS ∷ Part.STATEMENT ∷ Part.DO_CLOSE ∷ []) p.rest e.late e.text in
+    let c = token_first (Part.STATEMENT ∷ Part.DO_CLOSE ∷ []) p.rest l.late l.text in
     let c_count : suc (length c.rest) ≡ length p.rest = ap length c.same in
     let seen_3 = moved_seen (sym c.same) seen_2.1 in
     let place = c.s.token.place in
-    let unit =
-    λ (u : UnitAtHand).
+    let unit = λ (u : UnitAtHand).
     bracketed_units_are_trees limits u p.front p.early p.of_front seen_2.0 (omega (arith, few, count, t_count, p.count, c_count)) in
     let loop : Bracketed = record { bracket = t.s; unit = λ u. (unit u).parts; closing = c.s } in
-    let body =
-    body_text limits n below next c.rest c.late c.text seen_3.1 (omega (arith, few, count, t_count, p.count, c_count))
+    let body = body_text limits n below next c.rest c.late c.text seen_3.1 (omega (arith, few, count, t_count, p.count, c_count))
     (omega (arith, fewer, count, t_count, p.count, c_count)) in
     let hs = happenings_before place p.early p.front in
     let q : Quiet = record {
@@ -70,16 +68,13 @@ loop_row_tree {b} limits n below stands next seen events wd text are_seen few fe
     let front = λ (x : List Happening). Takes t.s.token t.s.behind ∷ (hs ++ x) in
     record {
       tree = LoopTree stands wd.word loop body.tree;
-      all =
-          ap (λ x. wd.word ∷ ((t.s ∷ (all_seen (unit no_unit).parts ++ c.s ∷ [])) ++ x)) body.all
+      all = ap (λ x. wd.word ∷ ((t.s ∷ (all_seen (unit no_unit).parts ++ c.s ∷ [])) ++ x)) body.all
           ∙ (ap (λ x. wd.word ∷ t.s ∷ x) (append_assoc (all_seen (unit no_unit).parts) (c.s ∷ []) c.rest
           ∙ (ap (λ x. x ++ c.s ∷ c.rest) (unit no_unit).same ∙ (ap (λ x. p.front ++ x) c.same ∙ p.same)))
           ∙ (ap (λ x. wd.word ∷ x) t.same ∙ wd.same));
       written = ((λ u. (unit u).written), body.written);
       nested = After (Plain (word_quiet wd)) (Objectloop opens q at at closed_quiet body.nested closes);
-      same =
-          sym (wd.happen next
-          ∙ ap (λ x. word ++ x) (o.happen next
+      same = sym (wd.happen next ∙ ap (λ x. word ++ x) (o.happen next
           ∙ (ap (λ x. Acts (plainly_at x) Action.OpenObjectloop ∷ happenings_before next o.late wd.rest) (t.place next)
           ∙ ap (λ x. Acts opens Action.OpenObjectloop ∷ x) (t.happen next
           ∙ ap (λ x. Takes t.s.token t.s.behind ∷ x) (p.happen next
@@ -122,10 +117,11 @@ loop_row_tree {b} limits n below stands next seen events wd text are_seen few fe
     }
 
 pub loop_tree : {b : Bool} (limits : Limits) (n : ℕ) → Below limits n → (stands : Standing) (next : Place) (seen : List Seen)
-    (events : List (Event Action)) → IsText grammar (before_word stands ++ 'objectloop' ∷ objectloop_rest ∷ []) (atoms_of seen) events
+    (events : List (Event Action)) → IsText grammar (before_word stands ++ Part.WORD_OBJECTLOOP ∷ Part.OBJECTLOOP_REST ∷
+    []) (atoms_of seen) events
     → AreAll seen → length seen + 1 < 4294967295 → length seen ≤ suc n → IsTree b limits next seen events
 unfolding grammar
 loop_tree {b} limits n below stands next seen events text are_seen few fewer =
-    let wd = worded limits stands _ (objectloop_rest ∷ []) seen events text in
-    by_rows (IsTree b limits next seen events) (number objectloop_rest)
+    let wd = worded limits stands _ (Part.OBJECTLOOP_REST ∷ []) seen events text in
+    by_rows (IsTree b limits next seen events) (number Part.OBJECTLOOP_REST)
     ((λ t. loop_row_tree limits n below stands next seen events wd t are_seen few fewer), tt) wd.text

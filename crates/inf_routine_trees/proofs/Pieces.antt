@@ -7,7 +7,7 @@ use Rattle.inf_settings.specs.Bounds.{Limits}
 use Rattle.inf_machine.specs.declared.symbols.Symbol.{Symbol}
 use Rattle.inf_machine.specs.Grammar.{Did, Event, IsText, Took, action, here}
 use Rattle.inf_syntax.specs.declared.actions.Action.{Action}
-use Rattle.inf_syntax.specs.Parts.{ !begin, !close, !deeper, !maybe_deeper, !outer, 'close_parenthesis', 'open_parenthesis', expression}
+use Rattle.inf_syntax.specs.declared.parts.names.TheConstants as Part
 use Rattle.inf_grammar.specs.Language.{grammar}
 use Rattle.inf_unit.specs.Units.{Unit as UnitAtHand, no_unit}
 use Rattle.inf_compilation.specs.{Actions.Compilation, Context.Context}
@@ -52,7 +52,7 @@ quiet-append (h ∷ xs) ys x y =
 -- Lemmas about a unit in brackets, with the action that ends it
 
 abbrev pub unit_symbols : List (Symbol Action)
-unit_symbols = !begin ∷ !outer ∷ expression ∷ []
+unit_symbols = Part.DO_BEGIN ∷ Part.DO_OUTER ∷ Part.EXPRESSION ∷ []
 
 pub unit_quiet : all_quiet unit_symbols ≡ true
 unfolding is_quiet_rule
@@ -70,8 +70,7 @@ pub record BracketedText (limits : Limits) (end : Action) (symbols : List (Symbo
   pub fewer : length rest + 2 ≤ length seen
   pub unit_happens : List Happening
   pub quiet : happen_quietly unit_happens ≡ true
-  pub happen : (next : Place) → happenings_before next events seen
-      ≡ Takes tree.bracket.token tree.bracket.behind
+  pub happen : (next : Place) → happenings_before next events seen ≡ Takes tree.bracket.token tree.bracket.behind
       ∷ (unit_happens ++ Acts (plainly_at tree.closing.token.place) end ∷ Takes tree.closing.token tree.closing.behind
       ∷ happenings_before next late rest)
   pub place : (next : Place) → place_before seen next ≡ tree.bracket.token.place
@@ -79,13 +78,15 @@ pub record BracketedText (limits : Limits) (end : Action) (symbols : List (Symbo
       → run limits context (Takes tree.bracket.token tree.bracket.behind ∷ unit_happens) w ≡ unit_done context tree w
 
 pub bracketed_text : (limits : Limits) (end : Action) (symbols : List (Symbol Action)) (seen : List Seen) (events : List (Event Action))
-    → IsText grammar ('open_parenthesis' ∷ !begin ∷ !outer ∷ expression ∷ Symbol.Act end ∷ 'close_parenthesis' ∷ symbols)
+    → IsText grammar (Part.OPEN_PARENTHESIS ∷ Part.DO_BEGIN ∷ Part.DO_OUTER ∷ Part.EXPRESSION ∷ Symbol.Act end ∷ Part.CLOSE_PARENTHESIS ∷
+    symbols)
     (atoms_of seen) events
     → AreSeen (atoms_of seen) (tokens_of seen) → length seen + 1 < 4294967295 → BracketedText limits end symbols seen events
 bracketed_text limits end symbols seen events text are_seen few =
-    let t = token_first (!begin ∷ !outer ∷ expression ∷ Symbol.Act end ∷ 'close_parenthesis' ∷ symbols) seen events text in
-    let p = parts_of unit_symbols (Symbol.Act end ∷ 'close_parenthesis' ∷ symbols) t.rest t.late t.text in
-    let b = act_first end ('close_parenthesis' ∷ symbols) p.rest p.late p.of_rest in
+    let t = token_first (Part.DO_BEGIN ∷ Part.DO_OUTER ∷ Part.EXPRESSION ∷ Symbol.Act end ∷ Part.CLOSE_PARENTHESIS ∷
+    symbols) seen events text in
+    let p = parts_of unit_symbols (Symbol.Act end ∷ Part.CLOSE_PARENTHESIS ∷ symbols) t.rest t.late t.text in
+    let b = act_first end (Part.CLOSE_PARENTHESIS ∷ symbols) p.rest p.late p.of_rest in
     let c = token_first symbols p.rest b.late b.text in
     let place = c.s.token.place in
     let seen_1 = subst (λ l. AreSeen (atoms_of l) (tokens_of l)) (sym t.same) are_seen in
@@ -93,8 +94,7 @@ bracketed_text limits end symbols seen events text are_seen few =
     let seen_3 = subst (λ l. AreSeen (atoms_of l) (tokens_of l)) (sym c.same) seen_2.1 in
     let count_1 : suc (length t.rest) ≡ length seen = ap length t.same in
     let count_3 : suc (length c.rest) ≡ length p.rest = ap length c.same in
-    let unit =
-    λ (u : UnitAtHand).
+    let unit = λ (u : UnitAtHand).
     bracketed_units_are_trees limits u p.front p.early p.of_front seen_2.0 (omega (arith, few, count_1, p.count, count_3)) in
     let tree : Bracketed = record { bracket = t.s; unit = λ u. (unit u).parts; closing = c.s } in
     let hs = happenings_before place p.early p.front in
@@ -104,8 +104,7 @@ bracketed_text limits end symbols seen events text are_seen few =
       written = λ u. (unit u).written;
       rest = c.rest;
       late = c.late;
-      same =
-          ap (λ l. t.s ∷ l) (append_assoc (all_seen (unit no_unit).parts) (c.s ∷ []) c.rest
+      same = ap (λ l. t.s ∷ l) (append_assoc (all_seen (unit no_unit).parts) (c.s ∷ []) c.rest
           ∙ (ap (λ l. l ++ c.s ∷ c.rest) (unit no_unit).same ∙ (ap (λ l. p.front ++ l) c.same ∙ p.same)))
           ∙ t.same;
       text = c.text;
@@ -113,9 +112,7 @@ bracketed_text limits end symbols seen events text are_seen few =
       fewer = omega (arith, count_1, p.count, count_3);
       unit_happens = hs;
       quiet = quiet_text unit_symbols unit_quiet place p.front p.early p.of_front;
-      happen = λ next.
-          t.happen next
-          ∙ ap opened (p.happen next
+      happen = λ next. t.happen next ∙ ap opened (p.happen next
           ∙ (ap (λ x. happenings_before x p.early p.front ++ happenings_before next p.late p.rest) (c.place next)
           ∙ ap (λ l. hs ++ l) (b.happen next
           ∙ (ap (λ x. Acts (plainly_at x) end ∷ happenings_before next b.late p.rest) (c.place next)
@@ -129,24 +126,20 @@ bracketed_text limits end symbols seen events text are_seen few =
 abbrev pub test_happens : {limits : Limits} {end : Action} {symbols : List (Symbol Action)} {seen : List Seen}
     {events : List (Event Action)}
     → BracketedText limits end symbols seen events → List Happening
-test_happens {end = end} b =
-    Takes b.tree.bracket.token b.tree.bracket.behind
+test_happens {end = end} b = Takes b.tree.bracket.token b.tree.bracket.behind
     ∷ (b.unit_happens ++ Acts (plainly_at b.tree.closing.token.place) end ∷ Takes b.tree.closing.token b.tree.closing.behind ∷ [])
 
 pub test_happen : {limits : Limits} {end : Action} {symbols : List (Symbol Action)} {seen : List Seen} {events : List (Event Action)}
     (b : BracketedText limits end symbols seen events) (next : Place)
     → happenings_before next events seen ≡ test_happens b ++ happenings_before next b.late b.rest
-test_happen {end = end} b next =
-    b.happen next
-    ∙ ap (λ l. Takes b.tree.bracket.token b.tree.bracket.behind ∷ l)
+test_happen {end = end} b next = b.happen next ∙ ap (λ l. Takes b.tree.bracket.token b.tree.bracket.behind ∷ l)
     (sym (append_assoc b.unit_happens
     (Acts (plainly_at b.tree.closing.token.place) end ∷ Takes b.tree.closing.token b.tree.closing.behind ∷ [])
     (happenings_before next b.late b.rest)))
 
 pub test_quiet : {limits : Limits} {end : Action} {symbols : List (Symbol Action)} {seen : List Seen} {events : List (Event Action)}
     (b : BracketedText limits end symbols seen events) → is_quiet end ≡ true → happen_quietly (test_happens b) ≡ true
-test_quiet {end = end} b quiet =
-    quiet-append b.unit_happens
+test_quiet {end = end} b quiet = quiet-append b.unit_happens
     (Acts (plainly_at b.tree.closing.token.place) end ∷ Takes b.tree.closing.token b.tree.closing.behind ∷ []) b.quiet
     (and_from (is_quiet end) true quiet refl)
 
@@ -154,8 +147,7 @@ pub test_runs : {limits : Limits} {end : Action} {symbols : List (Symbol Action)
     (b : BracketedText limits end symbols seen events) (context : Context) (w : Compilation)
     → run limits context (test_happens b) w ≡ bracketed_done limits context end b.tree w
 test_runs {limits} {end} b context w =
-    let last : List Happening =
-    Acts (plainly_at b.tree.closing.token.place) end ∷ Takes b.tree.closing.token b.tree.closing.behind ∷ [] in
+    let last : List Happening = Acts (plainly_at b.tree.closing.token.place) end ∷ Takes b.tree.closing.token b.tree.closing.behind ∷ [] in
     run_then limits context (Takes b.tree.bracket.token b.tree.bracket.behind ∷ b.unit_happens) last w
     ∙ ap (run limits context last) (b.runs context w)
 
@@ -163,8 +155,8 @@ test_runs {limits} {end} b context w =
 
 abbrev pub before_word : Standing → List (Symbol Action)
 before_word AtTop = []
-before_word Inner = !deeper ∷ []
-before_word OfSwitch = !maybe_deeper ∷ []
+before_word Inner = Part.DO_DEEPER ∷ []
+before_word OfSwitch = Part.DO_MAYBE_DEEPER ∷ []
 
 abbrev pub word_happens : Standing → Seen → List Happening
 word_happens AtTop word = Takes word.token word.behind ∷ []
@@ -209,9 +201,7 @@ worded limits Inner class symbols seen events text =
       late = t.late;
       same = t.same;
       text = t.text;
-      happen = λ next.
-          d.happen next
-          ∙ (ap (λ x. Acts (plainly_at x) Action.Deeper ∷ happenings_before next d.late seen) (t.place next)
+      happen = λ next. d.happen next ∙ (ap (λ x. Acts (plainly_at x) Action.Deeper ∷ happenings_before next d.late seen) (t.place next)
           ∙ ap (λ l. Acts (plainly_at t.s.token.place) Action.Deeper ∷ l) (t.happen next));
       quiet = refl;
       runs = λ context w. refl;
@@ -226,9 +216,7 @@ worded limits OfSwitch class symbols seen events text =
       late = t.late;
       same = t.same;
       text = t.text;
-      happen = λ next.
-          d.happen next
-          ∙ (ap (λ x. Acts (plainly_at x) Action.MaybeDeeper ∷ happenings_before next d.late seen) (t.place next)
+      happen = λ next. d.happen next ∙ (ap (λ x. Acts (plainly_at x) Action.MaybeDeeper ∷ happenings_before next d.late seen) (t.place next)
           ∙ ap (λ l. Acts (plainly_at t.s.token.place) Action.MaybeDeeper ∷ l) (t.happen next));
       quiet = refl;
       runs = λ context w. refl;
@@ -241,11 +229,11 @@ pub record Closed (seen : List Seen) (events : List (Event Action)) : Type 0 whe
   pub none : seen ≡ []
   pub happen : (next : Place) → happenings_before next events seen ≡ Acts (plainly_at next) Action.Close ∷ []
 
-closed_by : {atoms : List ℕ} {events : List (Event Action)} → IsText grammar (!close ∷ []) atoms events → (seen : List Seen)
+closed_by : {atoms : List ℕ} {events : List (Event Action)} → IsText grammar (Part.DO_CLOSE ∷ []) atoms events → (seen : List Seen)
     → atoms_of seen ≡ atoms → Closed seen events
 closed_by (action here) [] is = record { none = refl; happen = λ next. refl }
 closed_by (action here) (s ∷ seen) is = cc
 
-pub closed_text : (seen : List Seen) (events : List (Event Action)) → IsText grammar (!close ∷ []) (atoms_of seen) events
+pub closed_text : (seen : List Seen) (events : List (Event Action)) → IsText grammar (Part.DO_CLOSE ∷ []) (atoms_of seen) events
     → Closed seen events
 closed_text seen events text = closed_by text seen refl

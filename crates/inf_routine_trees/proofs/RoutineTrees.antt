@@ -6,8 +6,7 @@ use Rattle.inf_settings.specs.Bounds.{Limits}
 use Rattle.inf_machine.specs.declared.symbols.Symbol.{Symbol}
 use Rattle.inf_machine.specs.Grammar.{Event, IsOneOf, IsText, Took, first, here, row as a_row, token}
 use Rattle.inf_syntax.specs.{Rows.row, declared.actions.Action.Action}
-use Rattle.inf_syntax.specs.Parts.{ !end_locals, !end_routine, !routine, 'close_bracket', 'open_bracket', 'semicolon', NAME, directive}
-use Rattle.inf_syntax.specs.Parts.{directive_1, directive_2}
+use Rattle.inf_syntax.specs.declared.parts.names.TheConstants as Part
 use Rattle.inf_grammar.specs.Language.{grammar}
 use Rattle.inf_compilation.specs.{Actions.Compilation, Context.Context}
 use Rattle.inf_reader.specs.Acting.{act}
@@ -30,12 +29,12 @@ use Rattle.inf_routine_trees.proofs.Effects.{Effects, given, given-append, given
 
 -- A routine is a directive.
 
-routine_row : IsOneOf (row routine_symbols) (grammar.rows_of (number directive))
+routine_row : IsOneOf (row routine_symbols) (grammar.rows_of (number Part.DIRECTIVE))
 unfolding grammar
 routine_row = first
 
 routine_text : (atoms : List ℕ) (events : List (Event Action)) → IsText grammar routine_symbols atoms events
-    → IsText grammar (directive ∷ []) atoms events
+    → IsText grammar (Part.DIRECTIVE ∷ []) atoms events
 routine_text atoms events text =
     a_row routine_row (free atoms) (subst (λ l. IsText grammar l atoms events) (sym (append-nil routine_symbols)) text)
 
@@ -43,7 +42,8 @@ routine_text atoms events text =
 
 abbrev front_symbols : List (Symbol Action)
 front_symbols =
-    !routine ∷ 'open_bracket' ∷ NAME ∷ directive_1 ∷ !end_locals ∷ 'semicolon' ∷ directive_2 ∷ !end_routine ∷ 'close_bracket' ∷ []
+    Part.DO_ROUTINE ∷ Part.OPEN_BRACKET ∷ Part.NAME ∷ Part.DIRECTIVE_1 ∷ Part.DO_END_LOCALS ∷ Part.SEMICOLON ∷ Part.DIRECTIVE_2 ∷
+    Part.DO_END_ROUTINE ∷ Part.CLOSE_BRACKET ∷ []
 
 -- a text of the last semicolon
 record IsLast (seen : List Seen) (events : List (Event Action)) : Type 0 where
@@ -52,7 +52,7 @@ record IsLast (seen : List Seen) (events : List (Event Action)) : Type 0 where
   same : s ∷ [] ≡ seen
   are : events ≡ Took atom ∷ []
 
-is_last : {atoms : List ℕ} {events : List (Event Action)} → IsText grammar ('semicolon' ∷ []) atoms events → (seen : List Seen)
+is_last : {atoms : List ℕ} {events : List (Event Action)} → IsText grammar (Part.SEMICOLON ∷ []) atoms events → (seen : List Seen)
     → atoms_of seen ≡ atoms → IsLast seen events
 is_last (token h here) [] is = cc
 is_last (token {atom = atom} h here) (s ∷ []) is = record { s = s; atom = atom; same = refl; are = refl }
@@ -61,7 +61,7 @@ is_last (token h here) (s ∷ t ∷ seen) is = cc
 last_happens : (next : Place) (seen : List Seen) (events : List (Event Action)) → IsText grammar routine_symbols (atoms_of seen) events
     → happenings_of events seen ≡ happenings_before next events seen
 last_happens next seen events text =
-    let p = parts_of front_symbols ('semicolon' ∷ []) seen events text in
+    let p = parts_of front_symbols (Part.SEMICOLON ∷ []) seen events text in
     let l = is_last p.of_rest p.rest refl in
     let all = texts_take_all p.of_front p.front refl in
     let seen_are : p.front ++ l.s ∷ [] ≡ seen = ap (λ x. p.front ++ x) l.same ∙ p.same in
@@ -88,18 +88,18 @@ pub routine_runs : (limits : Limits) (seen : List Seen) (events : List (Event Ac
     → IsText grammar routine_symbols (atoms_of seen) events
     → AreSeen (atoms_of seen) (tokens_of seen) → length seen + 1 < 4294967295 → Runs limits seen events
 routine_runs limits seen events text are_seen few =
-    let h =
-    parts_of header_parts (!end_locals ∷ 'semicolon' ∷ directive_2 ∷ !end_routine ∷ 'close_bracket' ∷ 'semicolon' ∷ []) seen events text in
+    let h = parts_of header_parts (Part.DO_END_LOCALS ∷ Part.SEMICOLON ∷ Part.DIRECTIVE_2 ∷ Part.DO_END_ROUTINE ∷ Part.CLOSE_BRACKET ∷
+    Part.SEMICOLON ∷ []) seen events text in
     let parts = seen_parts h.front h.rest (moved_seen (sym h.same) are_seen) in
-    let e =
-    act_first Action.EndLocals ('semicolon' ∷ directive_2 ∷ !end_routine ∷ 'close_bracket' ∷ 'semicolon' ∷ []) h.rest h.late h.of_rest in
-    let s = token_first (directive_2 ∷ !end_routine ∷ 'close_bracket' ∷ 'semicolon' ∷ []) h.rest e.late e.text in
+    let e = act_first Action.EndLocals (Part.SEMICOLON ∷ Part.DIRECTIVE_2 ∷ Part.DO_END_ROUTINE ∷ Part.CLOSE_BRACKET ∷ Part.SEMICOLON ∷
+    []) h.rest h.late h.of_rest in
+    let s = token_first (Part.DIRECTIVE_2 ∷ Part.DO_END_ROUTINE ∷ Part.CLOSE_BRACKET ∷ Part.SEMICOLON ∷ []) h.rest e.late e.text in
     let behind = moved_seen (sym s.same) parts.1 in
     let s_count : suc (length s.rest) ≡ length h.rest = ap length s.same in
-    let b = parts_of (directive_2 ∷ []) (!end_routine ∷ 'close_bracket' ∷ 'semicolon' ∷ []) s.rest s.late s.text in
+    let b = parts_of (Part.DIRECTIVE_2 ∷ []) (Part.DO_END_ROUTINE ∷ Part.CLOSE_BRACKET ∷ Part.SEMICOLON ∷ []) s.rest s.late s.text in
     let inside = seen_parts b.front b.rest (moved_seen (sym b.same) behind.1) in
-    let r = act_first Action.EndRoutine ('close_bracket' ∷ 'semicolon' ∷ []) b.rest b.late b.of_rest in
-    let c = token_first ('semicolon' ∷ []) b.rest r.late r.text in
+    let r = act_first Action.EndRoutine (Part.CLOSE_BRACKET ∷ Part.SEMICOLON ∷ []) b.rest b.late b.of_rest in
+    let c = token_first (Part.SEMICOLON ∷ []) b.rest r.late r.text in
     let l = token_first [] c.rest c.late c.text in
     let n = nothing_left l.rest l.late l.text in
     let place = c.s.token.place in
@@ -114,8 +114,7 @@ routine_runs limits seen events text are_seen few =
     let body_happens = happenings_before at b.early b.front in
     let heads = plainly_at s.s.token.place in
     let ends = plainly_at place in
-    let last : List Happening =
-    Acts ends Action.EndRoutine ∷ Takes c.s.token c.s.behind ∷ Takes l.s.token l.s.behind ∷ [] in
+    let last : List Happening = Acts ends Action.EndRoutine ∷ Takes c.s.token c.s.behind ∷ Takes l.s.token l.s.behind ∷ [] in
     let all : happenings_before place events seen
     ≡ header ++ Acts heads Action.EndLocals ∷ Takes s.s.token s.s.behind ∷ (body_happens ++ last) =
     h.happen place
@@ -129,9 +128,7 @@ routine_runs limits seen events text are_seen few =
     ∙ ap (λ x. Takes c.s.token c.s.behind ∷ x) (l.happen place ∙ ap (λ x. Takes l.s.token l.s.behind ∷ x) (n.happen place))))))))) in
     record {
       tree = tree;
-      same =
-          ap (λ x. (front ++ s.s ∷ []) ++ (x ++ c.s ∷ l.s ∷ [])) body.all
-          ∙ (append_assoc front (s.s ∷ []) (b.front ++ c.s ∷ l.s ∷ [])
+      same = ap (λ x. (front ++ s.s ∷ []) ++ (x ++ c.s ∷ l.s ∷ [])) body.all ∙ (append_assoc front (s.s ∷ []) (b.front ++ c.s ∷ l.s ∷ [])
           ∙ (ap (λ x. x ++ s.s ∷ (b.front ++ c.s ∷ l.s ∷ [])) names.same
           ∙ (ap (λ x. h.front ++ s.s ∷ (b.front ++ c.s ∷ l.s ∷ x)) (sym n.none)
           ∙ (ap (λ x. h.front ++ s.s ∷ (b.front ++ c.s ∷ x)) l.same
@@ -169,7 +166,8 @@ routines_are_trees limits seen events text are_seen few none_ahead =
       written = r.written;
       does = λ context w ahead.
           let begins = next_comes w in
-          (texts_do_their_actions limits).act (number directive) seen events (routine_text (atoms_of seen) events text) none_ahead context w
+          (texts_do_their_actions limits).act (number Part.DIRECTIVE) seen events (routine_text (atoms_of seen) events text) none_ahead
+          context w
           ∙ (ap (λ hs. run limits context hs begins) (sym (none_given (happenings_of events seen)))
           ∙ (r.runs [] context begins ahead refl
           ∙ ap (λ (x : Tree × Effects). routine_done limits context (record r.tree { body = x.0 }) begins) (none_effects r.tree.body)));

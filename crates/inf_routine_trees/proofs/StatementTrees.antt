@@ -4,7 +4,8 @@ use Rattle.inf_scanner.specs.declared.tokens.Place.{Place}
 use Rattle.inf_settings.specs.Bounds.{Limits}
 use Rattle.inf_machine.specs.declared.symbols.Symbol.{Symbol}
 use Rattle.inf_machine.specs.Grammar.{Event, IsOneOf, IsText, first, later}
-use Rattle.inf_syntax.specs.{Parts.first_case, Parts.statement, Parts.switch_item, declared.actions.Action.Action}
+use Rattle.inf_syntax.specs.{declared.actions.Action.Action}
+use Rattle.inf_syntax.specs.declared.parts.names.TheConstants as Part
 use Rattle.inf_grammar.specs.Language.{grammar}
 use Rattle.inf_statement_laws.specs.Readings.{Seen}
 use Rattle.inf_language.specs.Texts.{atoms_of}
@@ -20,8 +21,8 @@ use Rattle.inf_routine_trees.proofs.Trees.{AreAll, Below, IsTree, OfSymbol, if_t
 -- Texts of at most `n` tokens are trees.
 pub record Smaller (limits : Limits) (n : ℕ) : Type 0 where
   pub statements : Below limits n
-  pub items : OfSymbol true switch_item limits n
-  pub first_cases : OfSymbol true first_case limits n
+  pub items : OfSymbol true Part.SWITCH_ITEM limits n
+  pub first_cases : OfSymbol true Part.FIRST_CASE limits n
 
 module _ (limits : Limits) (n : ℕ) (below : Smaller limits n) (next : Place) (seen : List Seen) (events : List (Event Action))
     (are_seen : AreAll seen) (few : length seen + 1 < 4294967295) (fewer : length seen ≤ suc n) where
@@ -55,9 +56,9 @@ no_text limits symbol ends next seen events text are_seen few fewer =
 
 pub smaller : (limits : Limits) (n : ℕ) → Smaller limits n
 smaller limits zero = record {
-  statements = no_text limits statement statement_ends;
-  items = no_text limits switch_item switch_ends;
-  first_cases = no_text limits first_case first_ends;
+  statements = no_text limits Part.STATEMENT statement_ends;
+  items = no_text limits Part.SWITCH_ITEM switch_ends;
+  first_cases = no_text limits Part.FIRST_CASE first_ends;
 }
 smaller limits (suc n) =
     let below = smaller limits n in

@@ -5,9 +5,7 @@ use Rattle.inf_scanner.specs.declared.tokens.Place.{Place}
 use Rattle.inf_settings.specs.Bounds.{Limits}
 use Rattle.inf_machine.specs.{Grammar.Event, Grammar.IsText, declared.symbols.Symbol.Symbol}
 use Rattle.inf_syntax.specs.{Rows.row, declared.actions.Action.Action}
-use Rattle.inf_syntax.specs.Parts.{ !begin, !close, !end_switch, !open_switch, !outer, 'close_brace', 'close_parenthesis', 'open_brace'}
-use Rattle.inf_syntax.specs.Parts.{'open_parenthesis', 'switch', expression, first_case, switch_item, switch_rest, switch_rest_1}
-use Rattle.inf_syntax.specs.Parts.{switch_rest_2}
+use Rattle.inf_syntax.specs.declared.parts.names.TheConstants as Part
 use Rattle.inf_grammar.specs.Language.{grammar}
 use Rattle.inf_constructs.specs.{Constructs.opened, declared.constructs.Case.Case, declared.constructs.Kind.Kind}
 use Rattle.inf_compilation.specs.Actions.{Compilation}
@@ -27,61 +25,61 @@ use Rattle.inf_routine_trees.proofs.Pieces.{Worded, before_word, bracketed_text,
 use Rattle.inf_routine_trees.proofs.Pieces.{test_quiet, test_runs, word_happens, worded}
 use Rattle.inf_routine_trees.proofs.Trees.{AreAll, IsTree, OfSymbol, moved_seen, word_closed, word_quiet}
 
-pub switch_ends : end_so false (switch_item ∷ []) ≡ true
+pub switch_ends : end_so false (Part.SWITCH_ITEM ∷ []) ≡ true
 unfolding ends
 switch_ends = refl
 
-pub first_ends : end_so false (first_case ∷ []) ≡ true
+pub first_ends : end_so false (Part.FIRST_CASE ∷ []) ≡ true
 unfolding ends
 first_ends = refl
 
-item_rows : Rows switch_rest_2 (row (switch_item ∷ switch_rest_2 ∷ []) ∷ row [] ∷ [])
+item_rows : Rows Part.SWITCH_REST_2 (row (Part.SWITCH_ITEM ∷ Part.SWITCH_REST_2 ∷ []) ∷ row [] ∷ [])
 unfolding grammar
 item_rows = refl
 
 abbrev switch_symbols : List (Symbol Action)
-switch_symbols =
-    'open_parenthesis' ∷ !begin ∷ !outer ∷ expression ∷ !end_switch ∷ 'close_parenthesis' ∷ 'open_brace' ∷ switch_rest_1 ∷ 'close_brace' ∷
-    !close ∷ []
+switch_symbols = Part.OPEN_PARENTHESIS ∷ Part.DO_BEGIN ∷ Part.DO_OUTER ∷ Part.EXPRESSION ∷ Part.DO_END_SWITCH ∷ Part.CLOSE_PARENTHESIS ∷
+    Part.OPEN_BRACE ∷ Part.SWITCH_REST_1 ∷ Part.CLOSE_BRACE ∷
+    Part.DO_CLOSE ∷ []
 
-module _ (limits : Limits) (n : ℕ) (items : OfSymbol true switch_item limits n) where
-  all_items : OfSymbol true first_case limits n → (next : Place) (seen : List Seen) (events : List (Event Action))
-      → IsText grammar (switch_rest_1 ∷ []) (atoms_of seen) events → AreAll seen → length seen + 1 < 4294967295 → length seen ≤ n
+module _ (limits : Limits) (n : ℕ) (items : OfSymbol true Part.SWITCH_ITEM limits n) where
+  all_items : OfSymbol true Part.FIRST_CASE limits n → (next : Place) (seen : List Seen) (events : List (Event Action))
+      → IsText grammar (Part.SWITCH_REST_1 ∷ []) (atoms_of seen) events → AreAll seen → length seen + 1 < 4294967295 → length seen ≤ n
       → IsList true limits next seen events
   unfolding grammar
   all_items first_cases next seen events text are_seen few fewer =
-      by_rows (IsList true limits next seen events) (number switch_rest_1) (
-        (λ t. let p = parts_of (first_case ∷ []) (switch_rest_2 ∷ []) seen events t in
+      by_rows (IsList true limits next seen events) (number Part.SWITCH_REST_1) (
+        (λ t. let p = parts_of (Part.FIRST_CASE ∷ []) (Part.SWITCH_REST_2 ∷ []) seen events t in
             let parts = seen_parts p.front p.rest (moved_seen (sym p.same) are_seen) in
-            items_by limits first_case switch_rest_2 first_ends next seen events p
+            items_by limits Part.FIRST_CASE Part.SWITCH_REST_2 first_ends next seen events p
             (first_cases (place_before p.rest next) p.front p.early p.of_front parts.0 (omega (arith, few, p.count))
             (omega (arith, fewer, p.count)))
-            (list_trees limits switch_item switch_ends (number switch_rest_2) item_rows n items (length p.rest) next p.rest p.late p.of_rest
+            (list_trees limits Part.SWITCH_ITEM switch_ends (number Part.SWITCH_REST_2) item_rows n items (length p.rest) next p.rest
+            p.late p.of_rest
             parts.1 (omega (arith, few, p.count)) (omega (arith, fewer, p.count)) (omega arith))),
         ((λ t. no_items limits next seen events t), tt),
       )
       text
 
-  switch_row_tree : {b : Bool} → OfSymbol true first_case limits n → (stands : Standing) (next : Place) (seen : List Seen)
-      (events : List (Event Action)) → (wd : Worded limits stands (switch_rest ∷ []) seen events)
-      → IsText grammar (!open_switch ∷ switch_symbols) (atoms_of wd.rest) wd.late → AreAll seen → length seen + 1 < 4294967295
+  switch_row_tree : {b : Bool} → OfSymbol true Part.FIRST_CASE limits n → (stands : Standing) (next : Place) (seen : List Seen)
+      (events : List (Event Action)) → (wd : Worded limits stands (Part.SWITCH_REST ∷ []) seen events)
+      → IsText grammar (Part.DO_OPEN_SWITCH ∷ switch_symbols) (atoms_of wd.rest) wd.late → AreAll seen → length seen + 1 < 4294967295
       → length seen ≤ suc n → IsTree b limits next seen events
   switch_row_tree {b} first_cases stands next seen events wd text are_seen few fewer =
       let all = moved_seen (sym wd.same) are_seen in
       let count : suc (length wd.rest) ≡ length seen = ap length wd.same in
       let o = act_first Action.OpenSwitch switch_symbols wd.rest wd.late text in
-      let t =
-      bracketed_text limits Action.EndSwitch ('open_brace' ∷ switch_rest_1 ∷ 'close_brace' ∷ !close ∷ []) wd.rest o.late o.text all.1
+      let t = bracketed_text limits Action.EndSwitch (Part.OPEN_BRACE ∷ Part.SWITCH_REST_1 ∷ Part.CLOSE_BRACE ∷ Part.DO_CLOSE ∷
+      []) wd.rest o.late o.text all.1
       (omega (arith, few, count)) in
-      let br = token_first (switch_rest_1 ∷ 'close_brace' ∷ !close ∷ []) t.rest t.late t.text in
+      let br = token_first (Part.SWITCH_REST_1 ∷ Part.CLOSE_BRACE ∷ Part.DO_CLOSE ∷ []) t.rest t.late t.text in
       let br_count : suc (length br.rest) ≡ length t.rest = ap length br.same in
       let behind = moved_seen (sym br.same) t.seen_rest in
-      let p = parts_of (switch_rest_1 ∷ []) ('close_brace' ∷ !close ∷ []) br.rest br.late br.text in
+      let p = parts_of (Part.SWITCH_REST_1 ∷ []) (Part.CLOSE_BRACE ∷ Part.DO_CLOSE ∷ []) br.rest br.late br.text in
       let parts = seen_parts p.front p.rest (moved_seen (sym p.same) behind.1) in
-      let c = token_first (!close ∷ []) p.rest p.late p.of_rest in
+      let c = token_first (Part.DO_CLOSE ∷ []) p.rest p.late p.of_rest in
       let l = closed_text c.rest c.late c.text in
-      let inner =
-      all_items first_cases (place_before p.rest next) p.front p.early p.of_front parts.0
+      let inner = all_items first_cases (place_before p.rest next) p.front p.early p.of_front parts.0
       (omega (arith, few, count, t.fewer, br_count, p.count)) (omega (arith, fewer, count, t.fewer, br_count, p.count)) in
       let brace : List Happening = Takes br.s.token br.s.behind ∷ [] in
       let q : Quiet = record { all = test_happens t ++ brace; are = quiet-append (test_happens t) brace (test_quiet t refl) refl } in
@@ -92,17 +90,14 @@ module _ (limits : Limits) (n : ℕ) (items : OfSymbol true switch_item limits n
       let last : List Happening = Takes c.s.token c.s.behind ∷ Acts closes Action.Close ∷ [] in
       record {
         tree = SwitchTree stands wd.word t.tree br.s inner.list.tree c.s;
-        all =
-            ap (λ x. wd.word ∷ (bracketed_seen t.tree ++ br.s ∷ (x ++ c.s ∷ []))) inner.list.all
+        all = ap (λ x. wd.word ∷ (bracketed_seen t.tree ++ br.s ∷ (x ++ c.s ∷ []))) inner.list.all
             ∙ (ap (λ x. wd.word ∷ (bracketed_seen t.tree ++ br.s ∷ (p.front ++ c.s ∷ x))) (sym l.none)
             ∙ (ap (λ x. wd.word ∷ (bracketed_seen t.tree ++ br.s ∷ (p.front ++ x))) c.same
             ∙ (ap (λ x. wd.word ∷ (bracketed_seen t.tree ++ br.s ∷ x)) p.same
             ∙ (ap (λ x. wd.word ∷ (bracketed_seen t.tree ++ x)) br.same ∙ (ap (λ x. wd.word ∷ x) t.same ∙ wd.same)))));
         written = (t.written, inner.list.written);
         nested = After (Plain (word_quiet wd)) (Switch opens q inner.list.nested closing closes);
-        same =
-            sym (wd.happen next
-            ∙ ap (λ x. word ++ x) (o.happen next
+        same = sym (wd.happen next ∙ ap (λ x. word ++ x) (o.happen next
             ∙ (ap (λ x. Acts (plainly_at x) Action.OpenSwitch ∷ happenings_before next o.late wd.rest) (t.place next)
             ∙ ap (λ x. Acts opens Action.OpenSwitch ∷ x) (test_happen t next
             ∙ (ap (λ x. test_happens t ++ x) (br.happen next
@@ -120,8 +115,7 @@ module _ (limits : Limits) (n : ℕ) (items : OfSymbol true switch_item limits n
             let y = token_done context br.s (bracketed_done limits context Action.EndSwitch t.tree x) in
             let reads : run limits context q.all x ≡ y =
             run_then limits context (test_happens t) brace x ∙ ap (token_done context br.s) (test_runs t context x) in
-            let y_closed =
-            ap (λ (z : Compilation). z.closed) (sym reads)
+            let y_closed = ap (λ (z : Compilation). z.closed) (sym reads)
             ∙ ((quiet_run limits context q.all x q.are).1 ∙ word_closed wd context w ahead) in
             let ended = λ (z : Compilation). let inside = token_done context c.s z in
             ended_as limits closes (with_kind_in inside.constructs d.0) v.constructs inside in
@@ -132,11 +126,12 @@ module _ (limits : Limits) (n : ℕ) (items : OfSymbol true switch_item limits n
             ∙ ap (λ r. tree_laid limits context (with_effect (next_effect r) holding_cases) w) (inner.list.rests effects);
       }
 
-  pub switch_tree : {b : Bool} → OfSymbol true first_case limits n → (stands : Standing) (next : Place) (seen : List Seen)
-      (events : List (Event Action)) → IsText grammar (before_word stands ++ 'switch' ∷ switch_rest ∷ []) (atoms_of seen) events
+  pub switch_tree : {b : Bool} → OfSymbol true Part.FIRST_CASE limits n → (stands : Standing) (next : Place) (seen : List Seen)
+      (events : List (Event Action)) → IsText grammar (before_word stands ++ Part.WORD_SWITCH ∷ Part.SWITCH_REST ∷
+      []) (atoms_of seen) events
       → AreAll seen → length seen + 1 < 4294967295 → length seen ≤ suc n → IsTree b limits next seen events
   unfolding grammar
   switch_tree {b} first_cases stands next seen events text are_seen few fewer =
-      let wd = worded limits stands _ (switch_rest ∷ []) seen events text in
-      by_rows (IsTree b limits next seen events) (number switch_rest)
+      let wd = worded limits stands _ (Part.SWITCH_REST ∷ []) seen events text in
+      by_rows (IsTree b limits next seen events) (number Part.SWITCH_REST)
       ((λ t. switch_row_tree first_cases stands next seen events wd t are_seen few fewer), tt) wd.text

@@ -6,8 +6,7 @@ use Rattle.inf_scanner.specs.declared.tokens.Place.{Place}
 use Rattle.inf_settings.specs.Bounds.{Limits}
 use Rattle.inf_machine.specs.{Grammar.Did, Grammar.Event, Grammar.IsText, Grammar.Took, declared.symbols.Symbol.Symbol}
 use Rattle.inf_syntax.specs.declared.actions.Action.{Action}
-use Rattle.inf_syntax.specs.Parts.{ !begin, !close, !else, !end_if, !end_while, !open_if, !open_while, !outer, 'close_parenthesis', 'else'}
-use Rattle.inf_syntax.specs.Parts.{'if', 'open_parenthesis', 'while', else_part, expression, if_rest, statement, while_rest}
+use Rattle.inf_syntax.specs.declared.parts.names.TheConstants as Part
 use Rattle.inf_grammar.specs.Language.{grammar}
 use Rattle.inf_unit.specs.Units.{Unit as UnitAtHand, begun, no_unit}
 use Rattle.inf_constructs.specs.{Constructs.between, Constructs.opened, declared.constructs.Kind.Kind}
@@ -46,8 +45,7 @@ pub record IsTree (b : Bool) (limits : Limits) (next : Place) (seen : List Seen)
 pub tree_runs : {b : Bool} (limits : Limits) (next : Place) (seen : List Seen) (events : List (Event Action))
     → (t : IsTree b limits next seen events) (effects : Effects) (context : Context) (w : Compilation) → w.closed ≡ 0 → w.opening ≡ None
     → run limits context (given effects (happenings_before next events seen)) w ≡ tree_laid limits context (with_effects effects t.tree).0 w
-tree_runs limits next seen events t effects context w ahead none =
-    ap (λ hs. run limits context (given effects hs) w) (sym t.same)
+tree_runs limits next seen events t effects context w ahead none = ap (λ hs. run limits context (given effects hs) w) (sym t.same)
     ∙ (ap (λ hs. run limits context hs w) (sym (put_happens effects t.nested).same)
     ∙ ((laid_as limits context (put effects t.nested).0 w ahead).runs ∙ t.lays effects context w ahead none))
 
@@ -92,8 +90,7 @@ quiet_joined [] late quiet other = other
 quiet_joined (Did a ∷ early) late quiet other = (quiet.0, quiet_joined early late quiet.1 other)
 quiet_joined (Took atom ∷ early) late quiet other = quiet_joined early late quiet other
 
-pub room_lays : (b : Bool) (done one_by_one : Compilation) → (b ≡ true → one_by_one ≡ done)
-    → one_by_one ≡ (if b then done else one_by_one)
+pub room_lays : (b : Bool) (done one_by_one : Compilation) → (b ≡ true → one_by_one ≡ done) → one_by_one ≡ (if b then done else one_by_one)
 room_lays true done one_by_one same = same refl
 room_lays false done one_by_one same = refl
 
@@ -133,7 +130,7 @@ OfSymbol b symbol limits n =
     → AreAll seen → length seen + 1 < 4294967295 → length seen ≤ n → IsTree b limits next seen events
 
 abbrev pub Below : Limits → ℕ → Type 0
-Below limits n = OfSymbol false statement limits n
+Below limits n = OfSymbol false Part.STATEMENT limits n
 
 abbrev pub word_quiet : {limits : Limits} {stands : Standing} {symbols : List (Symbol Action)} {seen : List Seen}
     {events : List (Event Action)}
@@ -143,15 +140,13 @@ word_quiet {stands = stands} wd = record { all = word_happens stands wd.word; ar
 pub word_closed : {limits : Limits} {stands : Standing} {symbols : List (Symbol Action)} {seen : List Seen} {events : List (Event Action)}
     (wd : Worded limits stands symbols seen events) (context : Context) (w : Compilation) → w.closed ≡ 0
     → (word_done limits context stands wd.word w).closed ≡ 0
-word_closed {limits} {stands} wd context w ahead =
-    ap (λ (v : Compilation). v.closed) (sym (wd.runs context w))
+word_closed {limits} {stands} wd context w ahead = ap (λ (v : Compilation). v.closed) (sym (wd.runs context w))
     ∙ ((quiet_run limits context (word_happens stands wd.word) w wd.quiet).1 ∙ ahead)
 
 pub test_closed : {limits : Limits} {end : Action} {symbols : List (Symbol Action)} {seen : List Seen} {events : List (Event Action)}
     (t : BracketedText limits end symbols seen events) → is_quiet end ≡ true → (context : Context) (w : Compilation) → w.closed ≡ 0
     → (bracketed_done limits context end t.tree w).closed ≡ 0
-test_closed {limits} t quiet context w ahead =
-    ap (λ (v : Compilation). v.closed) (sym (test_runs t context w))
+test_closed {limits} t quiet context w ahead = ap (λ (v : Compilation). v.closed) (sym (test_runs t context w))
     ∙ ((quiet_run limits context (test_happens t) w (test_quiet t quiet)).1 ∙ ahead)
 
 -- a statement and its closing
@@ -166,10 +161,11 @@ pub record BodyText (limits : Limits) (next : Place) (seen : List Seen) (events 
   pub rests : (effects : Effects) → (put effects nested).1 ≡ (with_effects effects tree).1
 
 pub body_text : (limits : Limits) (n : ℕ) → Below limits n → (next : Place) (seen : List Seen) (events : List (Event Action))
-    → IsText grammar (statement ∷ !close ∷ []) (atoms_of seen) events → AreAll seen → length seen + 1 < 4294967295 → length seen ≤ n
+    → IsText grammar (Part.STATEMENT ∷ Part.DO_CLOSE ∷
+    []) (atoms_of seen) events → AreAll seen → length seen + 1 < 4294967295 → length seen ≤ n
     → BodyText limits next seen events
 body_text limits n below next seen events text are_seen few fewer =
-    let p = parts_of (statement ∷ []) (!close ∷ []) seen events text in
+    let p = parts_of (Part.STATEMENT ∷ []) (Part.DO_CLOSE ∷ []) seen events text in
     let c = closed_text p.rest p.late p.of_rest in
     let parts = seen_parts p.front p.rest (moved_seen (sym p.same) are_seen) in
     let inner =
@@ -179,25 +175,26 @@ body_text limits n below next seen events text are_seen few fewer =
       all = inner.all ∙ (sym (append-nil p.front) ∙ (ap (λ l. p.front ++ l) (sym c.none) ∙ p.same));
       written = inner.written;
       nested = inner.nested;
-      happen =
-          p.happen next
+      happen = p.happen next
           ∙ (ap (λ l. l ++ happenings_before next p.late p.rest) (sym inner.same) ∙ ap (λ l. happenings inner.nested ++ l) (c.happen next));
       lays = inner.lays;
       rests = inner.rests;
     }
 
 while_row_tree : {b : Bool} (limits : Limits) (n : ℕ) → Below limits n → (stands : Standing) (next : Place) (seen : List Seen)
-    (events : List (Event Action)) → (wd : Worded limits stands (while_rest ∷ []) seen events)
-    → IsText grammar (!open_while ∷ 'open_parenthesis' ∷ !begin ∷ !outer ∷ expression ∷ !end_while ∷ 'close_parenthesis' ∷ statement ∷
-    !close ∷ [])
+    (events : List (Event Action)) → (wd : Worded limits stands (Part.WHILE_REST ∷ []) seen events)
+    → IsText grammar (Part.DO_OPEN_WHILE ∷ Part.OPEN_PARENTHESIS ∷ Part.DO_BEGIN ∷ Part.DO_OUTER ∷ Part.EXPRESSION ∷ Part.DO_END_WHILE ∷
+    Part.CLOSE_PARENTHESIS ∷ Part.STATEMENT ∷
+    Part.DO_CLOSE ∷ [])
     (atoms_of wd.rest) wd.late → AreAll seen → length seen + 1 < 4294967295 → length seen ≤ suc n → IsTree b limits next seen events
 while_row_tree {b} limits n below stands next seen events wd text are_seen few fewer =
     let all = moved_seen (sym wd.same) are_seen in
     let count : suc (length wd.rest) ≡ length seen = ap length wd.same in
-    let o =
-    act_first Action.OpenWhile
-    ('open_parenthesis' ∷ !begin ∷ !outer ∷ expression ∷ !end_while ∷ 'close_parenthesis' ∷ statement ∷ !close ∷ []) wd.rest wd.late text in
-    let t = bracketed_text limits Action.EndWhile (statement ∷ !close ∷ []) wd.rest o.late o.text all.1 (omega (arith, few, count)) in
+    let o = act_first Action.OpenWhile
+    (Part.OPEN_PARENTHESIS ∷ Part.DO_BEGIN ∷ Part.DO_OUTER ∷ Part.EXPRESSION ∷ Part.DO_END_WHILE ∷ Part.CLOSE_PARENTHESIS ∷
+    Part.STATEMENT ∷ Part.DO_CLOSE ∷ []) wd.rest wd.late text in
+    let t = bracketed_text limits Action.EndWhile (Part.STATEMENT ∷ Part.DO_CLOSE ∷
+    []) wd.rest o.late o.text all.1 (omega (arith, few, count)) in
     let body = body_text limits n below next t.rest t.late t.text t.seen_rest (omega (arith, few, count, t.fewer))
     (omega (arith, fewer, count, t.fewer)) in
     let q : Quiet = record { all = test_happens t; are = test_quiet t refl } in
@@ -209,9 +206,7 @@ while_row_tree {b} limits n below stands next seen events wd text are_seen few f
       all = ap (λ l. wd.word ∷ (bracketed_seen t.tree ++ l)) body.all ∙ (ap (λ l. wd.word ∷ l) t.same ∙ wd.same);
       written = (t.written, body.written);
       nested = After (Plain (word_quiet wd)) (While opens q body.nested closes);
-      same =
-          sym (wd.happen next
-          ∙ ap (λ l. word ++ l) (o.happen next
+      same = sym (wd.happen next ∙ ap (λ l. word ++ l) (o.happen next
           ∙ (ap (λ x. Acts (plainly_at x) Action.OpenWhile ∷ happenings_before next o.late wd.rest) (t.place next)
           ∙ ap (λ l. Acts opens Action.OpenWhile ∷ l) (test_happen t next ∙ ap (λ l. test_happens t ++ l) body.happen))));
       lays = λ effects context w ahead none.
@@ -232,28 +227,28 @@ while_row_tree {b} limits n below stands next seen events wd text are_seen few f
     }
 
 pub while_tree : {b : Bool} (limits : Limits) (n : ℕ) → Below limits n → (stands : Standing) (next : Place) (seen : List Seen)
-    (events : List (Event Action)) → IsText grammar (before_word stands ++ 'while' ∷ while_rest ∷ []) (atoms_of seen) events
+    (events : List (Event Action)) → IsText grammar (before_word stands ++ Part.WORD_WHILE ∷ Part.WHILE_REST ∷ []) (atoms_of seen) events
     → AreAll seen → length seen + 1 < 4294967295 → length seen ≤ suc n → IsTree b limits next seen events
 unfolding grammar
 while_tree {b} limits n below stands next seen events text are_seen few fewer =
-    let wd = worded limits stands _ (while_rest ∷ []) seen events text in
-    by_rows (IsTree b limits next seen events) (number while_rest)
+    let wd = worded limits stands _ (Part.WHILE_REST ∷ []) seen events text in
+    by_rows (IsTree b limits next seen events) (number Part.WHILE_REST)
     ((λ t. while_row_tree limits n below stands next seen events wd t are_seen few fewer), tt) wd.text
 
 -- The rest of an `if` behind its body: its closing, or its `else`
 data ElseText (limits : Limits) (next : Place) (seen : List Seen) (events : List (Event Action)) : Type 0 where
   Without : seen ≡ [] → happenings_before next events seen ≡ Acts (plainly_at next) Action.Close ∷ [] → ElseText limits next seen events
-  With : (joins : Seen) (rest : List Seen) (late : List (Event Action)) → joins ∷ rest ≡ seen
-      → happenings_before next events seen
+  With : (joins : Seen) (rest : List Seen) (late : List (Event Action)) → joins ∷ rest ≡ seen → happenings_before next events seen
       ≡ Acts (plainly_at joins.token.place) Action.Else ∷ Takes joins.token joins.behind ∷ happenings_before next late rest
       → BodyText limits next rest late → ElseText limits next seen events
 
 else_with : (limits : Limits) (n : ℕ) → Below limits n → (next : Place) (seen : List Seen) (events : List (Event Action))
-    → IsText grammar (!else ∷ 'else' ∷ statement ∷ !close ∷ []) (atoms_of seen) events → AreAll seen → length seen + 1 < 4294967295
+    → IsText grammar (Part.DO_ELSE ∷ Part.WORD_ELSE ∷ Part.STATEMENT ∷ Part.DO_CLOSE ∷
+    []) (atoms_of seen) events → AreAll seen → length seen + 1 < 4294967295
     → length seen ≤ n → ElseText limits next seen events
 else_with limits n below next seen events text are_seen few fewer =
-    let e = act_first Action.Else ('else' ∷ statement ∷ !close ∷ []) seen events text in
-    let t = token_first (statement ∷ !close ∷ []) seen e.late e.text in
+    let e = act_first Action.Else (Part.WORD_ELSE ∷ Part.STATEMENT ∷ Part.DO_CLOSE ∷ []) seen events text in
+    let t = token_first (Part.STATEMENT ∷ Part.DO_CLOSE ∷ []) seen e.late e.text in
     let count : suc (length t.rest) ≡ length seen = ap length t.same in
     let all = moved_seen (sym t.same) are_seen in
     With t.s t.rest t.late t.same
@@ -263,42 +258,41 @@ else_with limits n below next seen events text are_seen few fewer =
     (body_text limits n below next t.rest t.late t.text all.1 (omega (arith, few, count)) (omega (arith, fewer, count)))
 
 else_text : (limits : Limits) (n : ℕ) → Below limits n → (next : Place) (seen : List Seen) (events : List (Event Action))
-    → IsText grammar (else_part ∷ []) (atoms_of seen) events → AreAll seen → length seen + 1 < 4294967295
+    → IsText grammar (Part.ELSE_PART ∷ []) (atoms_of seen) events → AreAll seen → length seen + 1 < 4294967295
     → length seen ≤ n → ElseText limits next seen events
 unfolding grammar
-else_text limits n below next seen events text are_seen few fewer =
-    by_rows (ElseText limits next seen events) (number else_part) (
-      (λ t. else_with limits n below next seen events t are_seen few fewer),
-      ((λ t. let c = closed_text seen events t in Without c.none (c.happen next)), tt),
-    )
-    text
+else_text limits n below next seen events text are_seen few fewer = by_rows (ElseText limits next seen events) (number Part.ELSE_PART) (
+  (λ t. else_with limits n below next seen events t are_seen few fewer),
+  ((λ t. let c = closed_text seen events t in Without c.none (c.happen next)), tt),
+) text
 
 abbrev if_front : List (Symbol Action)
-if_front = 'open_parenthesis' ∷ !begin ∷ !outer ∷ expression ∷ !end_if ∷ 'close_parenthesis' ∷ []
+if_front = Part.OPEN_PARENTHESIS ∷ Part.DO_BEGIN ∷ Part.DO_OUTER ∷ Part.EXPRESSION ∷ Part.DO_END_IF ∷ Part.CLOSE_PARENTHESIS ∷ []
 
 -- the parts of an `if` before its end
 record IfText (limits : Limits) (n : ℕ) (stands : Standing) (next : Place) (seen : List Seen) (events : List (Event Action)) : Type 0 where
-  wd : Worded limits stands (if_rest ∷ []) seen events
+  wd : Worded limits stands (Part.IF_REST ∷ []) seen events
   former : List (Event Action)
   opened_first : (next : Place) → happenings_before next wd.late wd.rest
       ≡ Acts (plainly_at (place_before wd.rest next)) Action.OpenIf ∷ happenings_before next former wd.rest
-  test : BracketedText limits Action.EndIf (statement ∷ else_part ∷ []) wd.rest former
-  parts : PartsOf (statement ∷ []) (else_part ∷ []) test.rest test.late
+  test : BracketedText limits Action.EndIf (Part.STATEMENT ∷ Part.ELSE_PART ∷ []) wd.rest former
+  parts : PartsOf (Part.STATEMENT ∷ []) (Part.ELSE_PART ∷ []) test.rest test.late
   body : IsTree false limits (place_before parts.rest next) parts.front parts.early
   seen_rest : AreAll parts.rest
   few : length parts.rest + 1 < 4294967295
   fewer : length parts.rest ≤ n
 
 if_text : (limits : Limits) (n : ℕ) → Below limits n → (stands : Standing) (next : Place) (seen : List Seen)
-    (events : List (Event Action)) → (wd : Worded limits stands (if_rest ∷ []) seen events)
-    → IsText grammar (!open_if ∷ (if_front ++ statement ∷ else_part ∷ [])) (atoms_of wd.rest) wd.late
+    (events : List (Event Action)) → (wd : Worded limits stands (Part.IF_REST ∷ []) seen events)
+    → IsText grammar (Part.DO_OPEN_IF ∷ (if_front ++ Part.STATEMENT ∷ Part.ELSE_PART ∷ [])) (atoms_of wd.rest) wd.late
     → AreAll seen → length seen + 1 < 4294967295 → length seen ≤ suc n → IfText limits n stands next seen events
 if_text limits n below stands next seen events wd text are_seen few fewer =
     let all = moved_seen (sym wd.same) are_seen in
     let count : suc (length wd.rest) ≡ length seen = ap length wd.same in
-    let o = act_first Action.OpenIf (if_front ++ statement ∷ else_part ∷ []) wd.rest wd.late text in
-    let t = bracketed_text limits Action.EndIf (statement ∷ else_part ∷ []) wd.rest o.late o.text all.1 (omega (arith, few, count)) in
-    let p = parts_of (statement ∷ []) (else_part ∷ []) t.rest t.late t.text in
+    let o = act_first Action.OpenIf (if_front ++ Part.STATEMENT ∷ Part.ELSE_PART ∷ []) wd.rest wd.late text in
+    let t = bracketed_text limits Action.EndIf (Part.STATEMENT ∷ Part.ELSE_PART ∷
+    []) wd.rest o.late o.text all.1 (omega (arith, few, count)) in
+    let p = parts_of (Part.STATEMENT ∷ []) (Part.ELSE_PART ∷ []) t.rest t.late t.text in
     let seen_parts_2 = seen_parts p.front p.rest (moved_seen (sym p.same) t.seen_rest) in
     record {
       wd = wd;
@@ -306,8 +300,7 @@ if_text limits n below stands next seen events wd text are_seen few fewer =
       opened_first = o.happen;
       test = t;
       parts = p;
-      body =
-          below (place_before p.rest next) p.front p.early p.of_front seen_parts_2.0 (omega (arith, few, count, t.fewer, p.count))
+      body = below (place_before p.rest next) p.front p.early p.of_front seen_parts_2.0 (omega (arith, few, count, t.fewer, p.count))
           (omega (arith, fewer, count, t.fewer, p.count));
       seen_rest = seen_parts_2.1;
       few = omega (arith, few, count, t.fewer, p.count);
@@ -320,9 +313,7 @@ if_happen : {limits : Limits} {n : ℕ} {stands : Standing} {next : Place} {seen
     ≡ word_happens stands i.wd.word
     ++ Acts (opening_of i.test.tree) Action.OpenIf
     ∷ (test_happens i.test ++ (happenings i.body.nested ++ happenings_before next i.parts.late i.parts.rest))
-if_happen {stands = stands} {next} i =
-    i.wd.happen next
-    ∙ ap (λ l. word_happens stands i.wd.word ++ l) (i.opened_first next
+if_happen {stands = stands} {next} i = i.wd.happen next ∙ ap (λ l. word_happens stands i.wd.word ++ l) (i.opened_first next
     ∙ (ap (λ x. Acts (plainly_at x) Action.OpenIf ∷ happenings_before next i.former i.wd.rest) (i.test.place next)
     ∙ ap (λ l. Acts (opening_of i.test.tree) Action.OpenIf ∷ l) (test_happen i.test next
     ∙ ap (λ l. test_happens i.test ++ l) (i.parts.happen next
@@ -335,17 +326,13 @@ if_by {b} limits n stands next seen events i (Without none happen) =
     let opens = opening_of i.test.tree in
     let closes = plainly_at next in
     let word = word_happens stands i.wd.word in
-    let body : i.parts.front ≡ i.test.rest =
-    sym (append-nil i.parts.front) ∙ (ap (λ l. i.parts.front ++ l) (sym none) ∙ i.parts.same) in
+    let body : i.parts.front ≡ i.test.rest = sym (append-nil i.parts.front) ∙ (ap (λ l. i.parts.front ++ l) (sym none) ∙ i.parts.same) in
     record {
       tree = IfTree stands i.wd.word i.test.tree i.body.tree;
-      all =
-          ap (λ l. i.wd.word ∷ (bracketed_seen i.test.tree ++ l)) (i.body.all ∙ body)
-          ∙ (ap (λ l. i.wd.word ∷ l) i.test.same ∙ i.wd.same);
+      all = ap (λ l. i.wd.word ∷ (bracketed_seen i.test.tree ++ l)) (i.body.all ∙ body) ∙ (ap (λ l. i.wd.word ∷ l) i.test.same ∙ i.wd.same);
       written = (i.test.written, i.body.written);
       nested = After (Plain (word_quiet i.wd)) (If opens q i.body.nested closes);
-      same =
-          sym (if_happen i
+      same = sym (if_happen i
           ∙ ap (λ l. word ++ Acts opens Action.OpenIf ∷ (test_happens i.test ++ (happenings i.body.nested ++ l))) happen);
       lays = λ effects context w ahead none.
           let v = word_done limits context stands i.wd.word w in
@@ -372,17 +359,14 @@ if_by {b} limits n stands next seen events i (With joins rest late same happen o
     let word = word_happens stands i.wd.word in
     record {
       tree = ElseTree stands i.wd.word i.test.tree i.body.tree joins other.tree;
-      all =
-          ap (λ l. i.wd.word ∷ (bracketed_seen i.test.tree ++ (l ++ joins ∷ tree_seen other.tree))) i.body.all
+      all = ap (λ l. i.wd.word ∷ (bracketed_seen i.test.tree ++ (l ++ joins ∷ tree_seen other.tree))) i.body.all
           ∙ (ap (λ l. i.wd.word ∷ (bracketed_seen i.test.tree ++ (i.parts.front ++ joins ∷ l))) other.all
           ∙ (ap (λ l. i.wd.word ∷ (bracketed_seen i.test.tree ++ (i.parts.front ++ l))) same
           ∙ (ap (λ l. i.wd.word ∷ (bracketed_seen i.test.tree ++ l)) i.parts.same
           ∙ (ap (λ l. i.wd.word ∷ l) i.test.same ∙ i.wd.same))));
       written = (i.test.written, (i.body.written, other.written));
       nested = After (Plain (word_quiet i.wd)) (IfElse opens q i.body.nested at word_2 other.nested closes);
-      same =
-          sym (if_happen i
-          ∙ ap (λ l. word ++ Acts opens Action.OpenIf ∷ (test_happens i.test ++ (happenings i.body.nested ++ l)))
+      same = sym (if_happen i ∙ ap (λ l. word ++ Acts opens Action.OpenIf ∷ (test_happens i.test ++ (happenings i.body.nested ++ l)))
           (happen ∙ ap (λ l. Acts at Action.Else ∷ Takes joins.token joins.behind ∷ l) other.happen));
       lays = λ effects context w ahead none.
           let v = word_done limits context stands i.wd.word w in
@@ -401,8 +385,7 @@ if_by {b} limits n stands next seen events i (With joins rest late same happen o
           let holding_both = λ (r : Effects). ElseTree stands i.wd.word i.test.tree inner_tree.0 joins (with_effects r other.tree).0 in
           let joined = between limits c.0 former.output in
           let last = token_done context joins (holding at joined v.constructs former) in
-          let last_open =
-          (quiet_run limits context word_2.all (holding at joined v.constructs former) refl).1
+          let last_open = (quiet_run limits context word_2.all (holding at joined v.constructs former) refl).1
           ∙ tree_closed limits (place_before i.parts.rest next) i.parts.front i.parts.early i.body effects context y tested refl in
           with_behind limits context (next_effect two.1) (holding_both inner.1) w next
           (λ moment. laid {b = b} limits context (After (Plain (word_quiet i.wd)) (IfElse opens q inner.0 at word_2 two.0 moment)) w)
@@ -414,18 +397,17 @@ if_by {b} limits n stands next seen events i (With joins rest late same happen o
           ∙ (ap (λ r. tree_laid limits context (with_effect (next_effect r) (holding_both inner.1)) w) (other.rests inner.1)
           ∙ ap (λ r. tree_laid limits context (with_effect (next_effect (with_effects r other.tree).1) (holding_both r)) w)
           (i.body.rests effects));
-      rests = λ effects.
-          ap later_effects (other.rests (put effects i.body.nested).1)
+      rests = λ effects. ap later_effects (other.rests (put effects i.body.nested).1)
           ∙ ap (λ r. later_effects (with_effects r other.tree).1) (i.body.rests effects);
     }
 
 pub if_tree : {b : Bool} (limits : Limits) (n : ℕ) → Below limits n → (stands : Standing) (next : Place) (seen : List Seen)
-    (events : List (Event Action)) → IsText grammar (before_word stands ++ 'if' ∷ if_rest ∷ []) (atoms_of seen) events
+    (events : List (Event Action)) → IsText grammar (before_word stands ++ Part.WORD_IF ∷ Part.IF_REST ∷ []) (atoms_of seen) events
     → AreAll seen → length seen + 1 < 4294967295 → length seen ≤ suc n → IsTree b limits next seen events
 unfolding grammar
 if_tree {b} limits n below stands next seen events text are_seen few fewer =
-    let wd = worded limits stands _ (if_rest ∷ []) seen events text in
-    by_rows (IsTree b limits next seen events) (number if_rest) (
+    let wd = worded limits stands _ (Part.IF_REST ∷ []) seen events text in
+    by_rows (IsTree b limits next seen events) (number Part.IF_REST) (
       (λ t. let i = if_text limits n below stands next seen events wd t are_seen few fewer in
           if_by limits n stands next seen events i
           (else_text limits n below next i.parts.rest i.parts.late i.parts.of_rest i.seen_rest i.few i.fewer)),

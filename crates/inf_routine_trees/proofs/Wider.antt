@@ -26,14 +26,12 @@ wider_same b other = refl
 pub wider_laid : (b : Bool) (limits : Limits) (context : Context) (n : Nested false) (w : Compilation)
     → laid limits context (wider b n) w ≡ laid limits context n w
 unfolding wider
-wider_laid b limits context (Then first second) w =
-    ap (laid limits context (wider b second)) (wider_laid b limits context first w)
+wider_laid b limits context (Then first second) w = ap (laid limits context (wider b second)) (wider_laid b limits context first w)
     ∙ wider_laid b limits context second (laid limits context first w)
 wider_laid b limits context other w = refl
 
 -- with the effects behind its statements
-pub wider_put : (b : Bool) (effects : Effects) (n : Nested false)
-    → put effects (wider b n) ≡ (wider b (put effects n).0, (put effects n).1)
+pub wider_put : (b : Bool) (effects : Effects) (n : Nested false) → put effects (wider b n) ≡ (wider b (put effects n).0, (put effects n).1)
 unfolding wider
 wider_put b effects (Then first second) =
     let x = put effects first in

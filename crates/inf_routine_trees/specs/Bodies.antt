@@ -5,7 +5,8 @@ use Rattle.std.specs.Prelude.{Some, None}
 use Rattle.inf_scanner.specs.declared.tokens.Place.{Place}
 use Rattle.inf_settings.specs.Bounds.{Limits}
 use Rattle.inf_machine.specs.Grammar.{Event, IsText}
-use Rattle.inf_syntax.specs.{Parts.directive_2, Parts.statement, declared.actions.Action.Action}
+use Rattle.inf_syntax.specs.{declared.actions.Action.Action}
+use Rattle.inf_syntax.specs.declared.parts.names.TheConstants as Part
 use Rattle.inf_grammar.specs.Language.{grammar}
 use Rattle.inf_unit.specs.Units.{Unit as UnitAtHand, begun, no_unit}
 use Rattle.inf_constructs.specs.{Constructs.between, Constructs.opened, declared.constructs.Kind.Kind, declared.constructs.Over.Over}
@@ -311,11 +312,11 @@ pub record AreTrees (limits : Limits) (next : Place) (seen : List Seen) (events 
 -- orders to differ.
 abbrev pub StatementsAreLaidAsTrees : Limits → Type 0
 StatementsAreLaidAsTrees limits =
-    (next : Place) (seen : List Seen) (events : List (Event Action)) → IsText grammar (statement ∷ []) (atoms_of seen) events
+    (next : Place) (seen : List Seen) (events : List (Event Action)) → IsText grammar (Part.STATEMENT ∷ []) (atoms_of seen) events
     → AreSeen (atoms_of seen) (tokens_of seen) → length seen + 1 < 4294967295 → AreTrees limits next seen events
 
 -- The body of each routine, between its header and its end, is laid as trees.
 abbrev pub BodiesAreLaidAsTrees : Limits → Type 0
 BodiesAreLaidAsTrees limits =
-    (next : Place) (seen : List Seen) (events : List (Event Action)) → IsText grammar (directive_2 ∷ []) (atoms_of seen) events
+    (next : Place) (seen : List Seen) (events : List (Event Action)) → IsText grammar (Part.DIRECTIVE_2 ∷ []) (atoms_of seen) events
     → AreSeen (atoms_of seen) (tokens_of seen) → length seen + 1 < 4294967295 → AreTrees limits next seen events

@@ -3,8 +3,8 @@ use Rattle.std.specs.Prelude.{◌≡◌, ◌+◌, ◌<◌, List, [], ◌∷◌, 
 use Rattle.inf_settings.specs.Bounds.{Limits}
 use Rattle.inf_machine.specs.{Grammar.Event, Grammar.IsText, declared.symbols.Symbol.Symbol}
 use Rattle.inf_syntax.specs.declared.actions.Action.{Action}
-use Rattle.inf_syntax.specs.Parts.{ !end_locals, !end_routine, !routine, 'close_bracket', 'open_bracket', 'semicolon', NAME, directive}
-use Rattle.inf_syntax.specs.Parts.{directive_1, directive_2}
+use Rattle.inf_syntax.specs.declared.parts.names.TheConstants as Part
+use Part.{CLOSE_BRACKET, DIRECTIVE, DIRECTIVE_1, DIRECTIVE_2, DO_END_LOCALS, DO_END_ROUTINE, DO_ROUTINE, NAME, OPEN_BRACKET, SEMICOLON}
 use Rattle.inf_grammar.specs.Language.{grammar}
 use Rattle.inf_unit.specs.declared.roles.Note.{Note}
 use Rattle.inf_compilation.specs.{Actions.Compilation, Context.Context}
@@ -62,7 +62,8 @@ routine_with effects r = record r { body = (with_effects effects r.body).0 }
 -- the row of the grammar for a routine
 abbrev pub routine_symbols : List (Symbol Action)
 routine_symbols =
-    !routine ∷ 'open_bracket' ∷ NAME ∷ directive_1 ∷ !end_locals ∷ 'semicolon' ∷ directive_2 ∷ !end_routine ∷ 'close_bracket' ∷ 'semicolon'
+    DO_ROUTINE ∷ OPEN_BRACKET ∷ NAME ∷ DIRECTIVE_1 ∷ DO_END_LOCALS ∷ SEMICOLON ∷ DIRECTIVE_2 ∷
+    DO_END_ROUTINE ∷ CLOSE_BRACKET ∷ SEMICOLON
     ∷ []
 
 -- Tells whether tokens are a routine, and whether taking them, from a bracket that begins a directive, has the effect of the routine,
@@ -72,7 +73,7 @@ pub record IsRoutine (limits : Limits) (seen : List Seen) : Type 0 where
   pub same : routine_seen tree ≡ seen
   pub written : TreeWritten tree.body
   pub does : (context : Context) (w : Compilation) → w.closed ≡ 0
-      → next_comes (all_taken limits context seen (directive ∷ []) w) ≡ routine_done limits context tree (next_comes w)
+      → next_comes (all_taken limits context seen (DIRECTIVE ∷ []) w) ≡ routine_done limits context tree (next_comes w)
 
 -- All tokens that are a text of a routine are one. Each that has the atom of a mark is that mark, there are few enough of them for their
 -- orders to differ, and no conditional directive closes statements ahead between them.

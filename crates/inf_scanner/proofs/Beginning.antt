@@ -26,8 +26,7 @@ none : (set : CharSet) (b : ℕ) (m : Mark) → None ≡ Some m → begin set b 
 none set b m e = cc
 
 pub begin_mark : (set : CharSet) (b : ℕ) (m : Mark) → first_mark b ≡ Some m → begin set b ≡ begins m
-begin_mark set b m =
-    (pick set b 45 Mark.Minus m _ (both 45 Mark.Minus refl refl) (pick set b 43 Mark.Plus m _ (both 43 Mark.Plus refl refl)
+begin_mark set b m = (pick set b 45 Mark.Minus m _ (both 45 Mark.Minus refl refl) (pick set b 43 Mark.Plus m _ (both 43 Mark.Plus refl refl)
     (pick set b 42 Mark.Times m _ (both 42 Mark.Times refl refl) (pick set b 47 Mark.Divide m _ (both 47 Mark.Divide refl refl)
     (pick set b 37 Mark.Remainder m _ (both 37 Mark.Remainder refl refl) (pick set b 38 Mark.BitAnd m _ (both 38 Mark.BitAnd refl refl)
     (pick set b 124 Mark.BitOr m _ (both 124 Mark.BitOr refl refl) (pick set b 126 Mark.BitNot m _ (both 126 Mark.BitNot refl refl)

@@ -26,8 +26,7 @@ text_ends set limit (b ∷ bs) seen =
 quote_ends : (set : CharSet) (limit : ℕ) (bs : List ℕ) (a : Bool) (seen : Sight) →
     is_quoted (find set limit (State.Quote a) seen bs).ending ≡ true
 quote_ends set limit [] a seen = refl
-quote_ends set limit (b ∷ bs) a seen =
-    cond_both (is_line_end b) (ByteStep.Behind Ending.Unclosed)
+quote_ends set limit (b ∷ bs) a seen = cond_both (is_line_end b) (ByteStep.Behind Ending.Unclosed)
     (cond (b == 39 && not a) (ByteStep.Close Ending.Quote) (ByteStep.Keep (State.Quote (b == 64))))
     (λ s. is_quoted (after set limit s b seen bs).ending ≡ true)
     (λ _. refl)

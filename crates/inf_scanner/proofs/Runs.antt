@@ -73,8 +73,7 @@ name_runs false true z e = refl
 name_runs false false z e = cc
 
 run_on : (set : CharSet) (n : Bool) (b : ℕ) → is_name_byte b ≡ true → step_of set (State.Run n) b ≡ ByteStep.Keep (State.Run n)
-run_on set n b passes =
-    cond-true (is_run_byte b) (ByteStep.Keep (State.Run (n || b == 36))) (ByteStep.Behind (Ending.Run n))
+run_on set n b passes = cond-true (is_run_byte b) (ByteStep.Keep (State.Run (n || b == 36))) (ByteStep.Behind (Ending.Run n))
     (name_runs (is_letter b || is_digit b) (b == 95) (b == 36) passes)
     ∙ ap (λ t. ByteStep.Keep (State.Run (n || t))) (other is_name_byte b 36 refl passes)
     ∙ ap (λ t. ByteStep.Keep (State.Run t)) (or_none n)
@@ -83,8 +82,7 @@ text_on : (set : CharSet) (b : ℕ) → is_plain b ≡ true → step_of set Stat
 text_on set b passes = cond-false (b == 34) (ByteStep.Close Ending.Text) (ByteStep.Keep State.Text) (other is_plain b 34 refl passes)
 
 quote_on : (set : CharSet) (b : ℕ) → is_plain b ≡ true → step_of set (State.Quote false) b ≡ ByteStep.Keep (State.Quote false)
-quote_on set b passes =
-    cond-false (is_line_end b) (ByteStep.Behind Ending.Unclosed)
+quote_on set b passes = cond-false (is_line_end b) (ByteStep.Behind Ending.Unclosed)
     (cond (b == 39 && not false) (ByteStep.Close Ending.Quote) (ByteStep.Keep (State.Quote (b == 64)))) (no_end State.Text b passes)
     ∙ ap (λ t. cond (t && not false) (ByteStep.Close Ending.Quote) (ByteStep.Keep (State.Quote (b == 64))))
     (other is_plain b 39 refl passes)
@@ -131,8 +129,7 @@ skipped b seen = seen_on seen seen.kept
 keeps : (set : CharSet) (limit : ℕ) (s : State) (b : ℕ) (bs : List ℕ) (seen : Sight) → marked s seen ≡ seen →
     step_of set s b ≡ ByteStep.Keep s → stays s b ≡ true
     → find set limit s seen (b ∷ bs) ≡ find set limit s (with_kept (most limit s) b seen) bs
-keeps set limit s b bs seen same step passes =
-    ap (λ (x : Sight). after set limit (step_of set s b) b x bs) same
+keeps set limit s b bs seen same step passes = ap (λ (x : Sight). after set limit (step_of set s b) b x bs) same
     ∙ ap (λ (x : ByteStep). after set limit x b seen bs) step
     ∙ ap (λ (l : Lines). find set limit s (record { first = seen.first; kept = with_byte (most limit s) b seen.kept; lines = l }) bs)
     (past_calm b seen.lines (no_end s b passes))
@@ -163,8 +160,7 @@ first_free set limit (State.Quote a) first other kept lines bs gap = cc
 skips : (set : CharSet) (limit : ℕ) (s : State) (b : ℕ) (bs : List ℕ) (seen : Sight) → is_gap s ≡ true → step_of set s b ≡ ByteStep.Skip s →
     stays s b ≡ true
     → find set limit s seen (b ∷ bs) ≡ find set limit s (skipped b seen) bs
-skips set limit s b bs seen gap step passes =
-    ap (λ (x : ByteStep). after set limit x b (marked s seen) bs) step
+skips set limit s b bs seen gap step passes = ap (λ (x : ByteStep). after set limit x b (marked s seen) bs) step
     ∙ ap (λ (l : Lines). find set limit s (record { first = (marked s seen).first; kept = seen.kept; lines = l }) bs)
     (past_calm b seen.lines (no_end s b passes))
     ∙ first_free set limit s (marked s seen).first seen.first seen.kept (calm seen.lines) bs gap
@@ -211,19 +207,16 @@ abbrev kept_as : List ℕ → Bool → Kept
 kept_as bytes is_cut = record { bytes = bytes; is_cut = is_cut }
 
 none_more : (most : ℕ) (k : Kept) → with_bytes most [] k ≡ k
-none_more most k =
-    cond-true (nat_le 0 (most - length k.bytes)) _ _ (le-leb 0 (most - length k.bytes) (omega arith))
+none_more most k = cond-true (nat_le 0 (most - length k.bytes)) _ _ (le-leb 0 (most - length k.bytes) (omega arith))
     ∙ ap (λ bs. kept_as bs k.is_cut) (append-nil k.bytes)
 
 all_kept : (most : ℕ) (bs : List ℕ) (k : Kept) → length bs + length k.bytes ≤ most → with_bytes most bs k ≡ kept_as (k.bytes ++ bs) k.is_cut
-all_kept most bs k room =
-    cond-true (nat_le (length bs) (most - length k.bytes)) (kept_as (k.bytes ++ bs) k.is_cut)
+all_kept most bs k room = cond-true (nat_le (length bs) (most - length k.bytes)) (kept_as (k.bytes ++ bs) k.is_cut)
     (kept_as (k.bytes ++ take (most - length k.bytes) bs) true) (le-leb (length bs) (most - length k.bytes) (omega arith))
 
 some_kept : (most : ℕ) (bs : List ℕ) (k : Kept) → most - length k.bytes < length bs →
     with_bytes most bs k ≡ kept_as (k.bytes ++ take (most - length k.bytes) bs) true
-some_kept most bs k full =
-    cond-false (nat_le (length bs) (most - length k.bytes)) (kept_as (k.bytes ++ bs) k.is_cut)
+some_kept most bs k full = cond-false (nat_le (length bs) (most - length k.bytes)) (kept_as (k.bytes ++ bs) k.is_cut)
     (kept_as (k.bytes ++ take (most - length k.bytes) bs) true) (lt-leb (length bs) (most - length k.bytes) full)
 
 -- where there is no room at all no byte is kept
@@ -250,9 +243,7 @@ room_kept most b bs k room = by (cases_lt most (length bs + 1 + length k.bytes))
         ∙ ap (λ n. kept_as (k.bytes ++ take n (b ∷ bs)) true) next
         ∙ ap (λ x. kept_as x true) (sym (append_assoc k.bytes (b ∷ []) (take (most - length (k.bytes ++ b ∷ [])) bs)))
         ∙ sym (some_kept most bs (kept_as (k.bytes ++ b ∷ []) k.is_cut) (omega (arith, more)))
-    by (inr fits) =
-        all_kept most (b ∷ bs) k (omega arith)
-        ∙ ap (λ x. kept_as x k.is_cut) (sym (append_assoc k.bytes (b ∷ []) bs))
+    by (inr fits) = all_kept most (b ∷ bs) k (omega arith) ∙ ap (λ x. kept_as x k.is_cut) (sym (append_assoc k.bytes (b ∷ []) bs))
         ∙ sym (all_kept most bs (kept_as (k.bytes ++ b ∷ []) k.is_cut) (omega (arith, more)))
 
 -- several bytes are kept as the first, and then the others
@@ -260,8 +251,7 @@ one_more : (most b : ℕ) (bs : List ℕ) (k : Kept) → with_bytes most (b ∷ 
 one_more most b bs k = by (cases_lt (length k.bytes) most)
   where
     by : (length k.bytes < most) ⊎ (most ≤ length k.bytes) → with_bytes most (b ∷ bs) k ≡ with_bytes most bs (with_byte most b k)
-    by (inl room) =
-        room_kept most b bs k room
+    by (inl room) = room_kept most b bs k room
         ∙ ap (with_bytes most bs) (sym (cond-true (nat_lt (length k.bytes) most) (kept_as (k.bytes ++ b ∷ []) k.is_cut)
         (kept_as k.bytes true) (lt-ltb (length k.bytes) most room)))
     by (inr full) =
@@ -329,16 +319,13 @@ name_black set b passes = by set
     five false false false false v e f g h i = i
 
     by : (set : CharSet) → is_white set b ≡ false
-    by CharSet.Ascii =
-        four (b == 32) (b == 9) (b == 12) (is_line_end b) (is_none 32 refl) (is_none 9 refl) (is_none 12 refl)
+    by CharSet.Ascii = four (b == 32) (b == 9) (b == 12) (is_line_end b) (is_none 32 refl) (is_none 9 refl) (is_none 12 refl)
         (neither (b == 10) (b == 13) (is_none 10 refl) (is_none 13 refl))
-    by CharSet.Latin1 =
-        five (b == 32) (b == 9) (b == 12) (is_line_end b) (b == 160) (is_none 32 refl) (is_none 9 refl) (is_none 12 refl)
+    by CharSet.Latin1 = five (b == 32) (b == 9) (b == 12) (is_line_end b) (b == 160) (is_none 32 refl) (is_none 9 refl) (is_none 12 refl)
         (neither (b == 10) (b == 13) (is_none 10 refl) (is_none 13 refl)) (is_none 160 refl)
 
 name_first : (set : CharSet) (b : ℕ) → is_name_byte b ≡ true → step_of set State.Gap b ≡ ByteStep.Keep (State.Run (is_digit b))
-name_first set b passes =
-    cond-false (is_white set b) _ _ (name_black set b passes)
+name_first set b passes = cond-false (is_white set b) _ _ (name_black set b passes)
     ∙ cond-true (is_run_byte b) _ _ (name_runs (is_letter b || is_digit b) (b == 95) (b == 36) passes)
     ∙ ap (λ t. ByteStep.Keep (State.Run (is_digit b || t))) (other is_name_byte b 36 refl passes)
     ∙ ap (λ t. ByteStep.Keep (State.Run t)) (or_none (is_digit b))
@@ -362,7 +349,6 @@ found_name set limit b (x ∷ behind) rest seen is passes = by x is
 pub found_mark : (set : CharSet) (limit : ℕ) (m : Mark) (seen : Sight) (bs : List ℕ) → ((b : ℕ) → longer_mark m b ≡ None)
     → record { ending = Ending.Mark m; seen = seen; rest = bs } ≡ find set limit (State.Mark m) seen bs
 found_mark set limit m seen [] whole = refl
-found_mark set limit m seen (b ∷ bs) whole =
-    sym (ap (λ (o : Option Mark). after set limit
+found_mark set limit m seen (b ∷ bs) whole = sym (ap (λ (o : Option Mark). after set limit
     (elim o [ Some x ↦ ByteStep.Keep (State.Mark x) | None ↦ ByteStep.Behind (Ending.Mark m) ])
     b seen bs) (whole b))

@@ -278,8 +278,7 @@ gap_behind set true b gap behind fits = fits
 gap_behind set false b gap behind fits = by (b == 33) refl
   where
     by : (t : Bool) → b == 33 ≡ t → are_gaps set (b == 33) gap behind ≡ true
-    by true t =
-        ap (λ c. are_gaps set c gap behind) t
+    by true t = ap (λ c. are_gaps set c gap behind) t
         ∙ sym (cond-true (b == 33) (are_gaps set true gap behind) (is_white set b && are_gaps set false gap behind) t) ∙ fits
     by false t =
         let white : is_white set b && are_gaps set false gap behind ≡ true =

@@ -71,8 +71,7 @@ ends_with after (x ∷ bytes) b = ends_with (x == 64) bytes b
 
 in_quote_with : (after : Bool) (bytes : List ℕ) (b : ℕ) → is_in_quote after bytes ≡ true → is_line_end b ≡ false
     → (b == 39 && not (ends_at after bytes)) ≡ false → is_in_quote after (bytes ++ b ∷ []) ≡ true
-in_quote_with after [] b inside no_end no_quote =
-    and_from (not (is_line_end b) && not (b == 39 && not after)) true
+in_quote_with after [] b inside no_end no_quote = and_from (not (is_line_end b) && not (b == 39 && not after)) true
     (and_from (not (is_line_end b)) (not (b == 39 && not after)) (not_from_false (is_line_end b) no_end)
     (not_from_false (b == 39 && not after) no_quote)) refl
 in_quote_with after (x ∷ bytes) b inside no_end no_quote =
@@ -239,8 +238,7 @@ text_tail set limit [] seen bytes none k = record {
   passes = refl;
   begins = refl;
 }
-text_tail set limit (b ∷ bs) seen bytes none k =
-    cond_both (b == 34) (ByteStep.Close Ending.Text) (ByteStep.Keep State.Text)
+text_tail set limit (b ∷ bs) seen bytes none k = cond_both (b == 34) (ByteStep.Close Ending.Text) (ByteStep.Keep State.Text)
     (λ s. Tail set limit (after set limit s b seen bs) (34 ∷ bytes) (b ∷ bs) seen.lines seen.first)
     (λ yes. record {
       more = b ∷ [];
@@ -271,8 +269,7 @@ quote_tail set limit [] a seen bytes inside at k = record {
   passes = refl;
   begins = refl;
 }
-quote_tail set limit (b ∷ bs) a seen bytes inside at k =
-    cond_both (is_line_end b) (ByteStep.Behind Ending.Unclosed)
+quote_tail set limit (b ∷ bs) a seen bytes inside at k = cond_both (is_line_end b) (ByteStep.Behind Ending.Unclosed)
     (cond (b == 39 && not a) (ByteStep.Close Ending.Quote) (ByteStep.Keep (State.Quote (b == 64))))
     (λ s. Tail set limit (after set limit s b seen bs) (39 ∷ bytes) (b ∷ bs) seen.lines seen.first)
     (λ yes. record {

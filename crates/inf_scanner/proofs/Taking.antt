@@ -16,8 +16,7 @@ find_turn : (set : CharSet) (limit : ℕ) (s : State) (seen : Sight) (bytes : Li
     i < length bytes
     → t ≡ turn set limit s (get_or bytes i 0) seen → after_turn set limit t (get_or bytes i 0) (drop (i + 1) bytes ++ rest) ≡ find set limit
     s seen (drop i bytes ++ rest)
-find_turn set limit s seen bytes i rest t within is =
-    ap (λ n. after_turn set limit t (get_or bytes i 0) (drop n bytes ++ rest)) (add-one i)
+find_turn set limit s seen bytes i rest t within is = ap (λ n. after_turn set limit t (get_or bytes i 0) (drop n bytes ++ rest)) (add-one i)
     ∙ ap (λ x. after_turn set limit x (get_or bytes i 0) (drop (suc i) bytes ++ rest)) is
     ∙ sym (ap (λ l. find set limit s seen (l ++ rest)) (drop-cons bytes i 0 within))
 

@@ -42,8 +42,7 @@ signed_other : (set : CharSet) (s : Sign) (bytes : List ℕ) → Other (signed_k
 signed_other set s bytes = read_other (quoted_kind s) (text_of set Mode.Quote bytes) (quoted_other s)
 
 quote_other : (set : CharSet) (bytes : List ℕ) → Other (quote_kind set bytes)
-quote_other set bytes =
-    cond_both (length bytes == 0) _ _ Other (λ _. refl)
+quote_other set bytes = cond_both (length bytes == 0) _ _ Other (λ _. refl)
     (λ _. cond_both (bytes_eq (last 3 bytes) (47 ∷ 47 ∷ 112 ∷ [])) _ _ Other (λ _. signed_other set Sign.Plural (front 3 bytes))
     (λ _. cond_both (bytes_eq (last 2 bytes) (47 ∷ 47 ∷ [])) _ _ Other (λ _. signed_other set Sign.Single (front 2 bytes))
     (λ _. signed_other set Sign.None bytes)))
@@ -104,12 +103,10 @@ run_only set limit (Ending.Mark m) k is = refl
 run_only set limit (Ending.Run n) k is = refl
 run_only set limit Ending.Unclosed k is = no_run limit Ending.Unclosed (kind_of set Ending.Unclosed k)
     (cond_both k.is_cut (TokenKind.Bad BadToken.TooLong) (TokenKind.Bad BadToken.Unclosed) Other (λ _. refl) (λ _. refl)) is
-run_only set limit Ending.Text k is =
-    no_run limit Ending.Text (kind_of set Ending.Text k)
+run_only set limit Ending.Text k is = no_run limit Ending.Text (kind_of set Ending.Text k)
     (cond_both k.is_cut (TokenKind.Bad BadToken.TooLong) (text_kind set k.bytes) Other (λ _. refl)
     (λ _. read_other (λ _. TokenKind.Text) (text_of set Mode.Text k.bytes) (λ _. refl))) is
-run_only set limit Ending.Quote k is =
-    no_run limit Ending.Quote (kind_of set Ending.Quote k)
+run_only set limit Ending.Quote k is = no_run limit Ending.Quote (kind_of set Ending.Quote k)
     (cond_both k.is_cut (TokenKind.Bad BadToken.TooLong) (quote_kind set k.bytes) Other (λ _. refl) (λ _. quote_other set k.bytes)) is
 
 span_end : (set : CharSet) (e : Ending) (bytes span behind : List ℕ) → Spans set e bytes span behind → e ≡ Ending.End → behind ≡ []
@@ -130,8 +127,7 @@ tokens_take_bytes set limit lines (b ∷ bytes) =
     let same : length p.read.rest ≡ length (next_token set limit lines (b ∷ bytes)).rest = ap (λ (r : Read). length r.rest) s.is.is_read in
     record {
       one = inr (omega (arith, less, same));
-      end = λ is. ap (λ (r : Read). r.rest) (sym s.is.is_read)
-          ∙ span_end set s.is.ending s.is.bytes p.span p.read.rest s.is.span_fits
+      end = λ is. ap (λ (r : Read). r.rest) (sym s.is.is_read) ∙ span_end set s.is.ending s.is.bytes p.span p.read.rest s.is.span_fits
           (end_only set s.is.ending p.read.kept (sym s.is.is_told ∙ ap (λ (r : Read). r.kind) s.is.is_read ∙ is));
     }
 

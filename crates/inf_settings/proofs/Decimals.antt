@@ -2,7 +2,7 @@
 use Rattle.std.proofs.{lemmas.Bool.Decides.nat_tests, lemmas.List.drop_all}
 use Rattle.std.proofs.Common.{◌≡◌, ℕ, suc, ◌+◌, ◌-◌, ◌*◌, ◌<◌, ◌≤◌, ◌&&◌, ◌∙◌, Bool, true, false, cond, nat_le, min, List, [], ◌∷◌, length}
 use Rattle.std.proofs.Common.{get_or, drop, drop-cons, add-one, Some, None, refl, ap, sym, arith}
-use Rattle.inf_settings.specs.Words.{capped, decimal_from, decimal_of, greatest}
+use Rattle.inf_settings.specs.Words.{capped, decimal_from, greatest}
 
 step_capped : (n m d : ℕ) → min n greatest ≡ min m greatest → min (n * 10 + d) greatest ≡ min (m * 10 + d) greatest
 step_capped n m d same = omega (arith, same)
@@ -30,8 +30,7 @@ stops n d next is = omega (arith, is)
 pub decimal_next : (n next : ℕ) (ds : List ℕ) (i : ℕ) → i < length ds → 48 ≤ get_or ds i 0 → get_or ds i 0 ≤ 57
     → next ≡ min (min (n * 10) greatest + (get_or ds i 0 - 48)) greatest
     → capped (decimal_from next (drop (i + 1) ds)) ≡ capped (decimal_from n (drop i ds))
-decimal_next n next ds i within low high is =
-    rw (add-one, drop-cons ds i 0 within)
+decimal_next n next ds i within low high is = rw (add-one, drop-cons ds i 0 within)
     (capped_alike next (n * 10 + (get_or ds i 0 - 48)) (drop (suc i) ds) (stops n (get_or ds i 0) next is)
     ∙ sym (digit_next n (get_or ds i 0) (drop (suc i) ds) low high))
 
@@ -40,8 +39,3 @@ pub decimal_end : (n : ℕ) (ds : List ℕ) (i : ℕ) → length ds ≤ i → n 
 decimal_end n ds i past small =
     let least : min n greatest ≡ n = omega (arith, small) in
     rw (drop_all i ds past, least) refl
-
--- digits write a number where there is at least one
-pub decimal_some : (ds : List ℕ) → 0 < length ds → capped (decimal_from 0 ds) ≡ capped (decimal_of ds)
-decimal_some [] is = absurd (omega (arith, is))
-decimal_some (d ∷ ds) is = refl

@@ -79,8 +79,7 @@ quote_more after_at b bytes e =
 
 quote_closed : (after_at : Bool) (bytes behind : List ℕ) → is_quoted after_at bytes ≡ true → ends_with_at after_at bytes ≡ false
     → quote_cut after_at (bytes ++ 39 ∷ behind) ≡ cut true bytes behind
-quote_closed after_at [] behind all last =
-    ap (λ t. cond (not t) (cut true [] behind) (more 39 (quote_cut false behind))) last
+quote_closed after_at [] behind all last = ap (λ t. cond (not t) (cut true [] behind) (more 39 (quote_cut false behind))) last
 quote_closed after_at (b ∷ bytes) behind all last =
     let parts = and_parts (not (ends_line b) && not (b == 39 && not after_at)) (is_quoted (b == 64) bytes) all in
     quote_more after_at b (bytes ++ 39 ∷ behind) parts.0 ∙ ap (more b) (quote_closed (b == 64) bytes behind parts.1 last)
@@ -122,8 +121,7 @@ quote_found c = found (cond c.closed (Quote c.taken) (OpenQuote c.taken)) c.left
 
 abbrev pub token_cut : List ℕ → Found
 token_cut [] = found End []
-token_cut (b ∷ bytes) =
-    cond (in_word b) (word_found (word_cut (b ∷ bytes)))
+token_cut (b ∷ bytes) = cond (in_word b) (word_found (word_cut (b ∷ bytes)))
     (cond (b == 34) (text_found (text_cut bytes)) (cond (b == 39) (quote_found (quote_cut false bytes)) (first_cut b bytes (first_mark b))))
 
 word_token : (bytes behind : List ℕ) → is_empty bytes ≡ false → list_all in_word bytes ≡ true → starts in_word behind ≡ false
@@ -131,8 +129,7 @@ word_token : (bytes behind : List ℕ) → is_empty bytes ≡ false → list_all
 word_token [] behind some all stops = absurd (cc some)
 word_token (b ∷ bytes) behind some all stops =
     let parts = and_parts (in_word b) (list_all in_word bytes) all in
-    let rest : Found =
-    cond (b == 34) (text_found (text_cut (bytes ++ behind)))
+    let rest : Found = cond (b == 34) (text_found (text_cut (bytes ++ behind)))
     (cond (b == 39) (quote_found (quote_cut false (bytes ++ behind))) (first_cut b (bytes ++ behind) (first_mark b))) in
     ap (λ t. cond t (word_found (word_cut (b ∷ (bytes ++ behind)))) rest) parts.0 ∙ ap word_found (word_is (b ∷ bytes) behind all stops)
 
@@ -172,15 +169,12 @@ token_is (Sign m) span behind is =
     let same = mark_spelled span m is.0 in
     ap (λ s. token_cut (s ++ behind)) same ∙ mark_token m behind
     ∙ mark_ends m behind (ap (λ s. is_longest s behind) (sym same) ∙ is.1)
-token_is (Text bytes) span behind is =
-    ap (λ s. token_cut (s ++ behind)) is.0
+token_is (Text bytes) span behind is = ap (λ s. token_cut (s ++ behind)) is.0
     ∙ ap (λ l. text_found (text_cut l)) (append_assoc bytes (34 ∷ []) behind) ∙ ap text_found (text_closed bytes behind is.1)
-token_is (Quote bytes) span behind is =
-    ap (λ s. token_cut (s ++ behind)) is.0
+token_is (Quote bytes) span behind is = ap (λ s. token_cut (s ++ behind)) is.0
     ∙ ap (λ l. quote_found (quote_cut false l)) (append_assoc bytes (39 ∷ []) behind)
     ∙ ap quote_found (quote_closed false bytes behind is.1 is.2)
-token_is (OpenText bytes) span behind is =
-    ap (λ s. token_cut (s ++ behind)) is.0 ∙ ap text_found (text_open bytes behind is.1 is.2)
+token_is (OpenText bytes) span behind is = ap (λ s. token_cut (s ++ behind)) is.0 ∙ ap text_found (text_open bytes behind is.1 is.2)
 token_is (OpenQuote bytes) span behind is =
     ap (λ s. token_cut (s ++ behind)) is.0 ∙ ap quote_found (quote_open false bytes behind is.1 is.2)
 token_is (Stray b) span behind is = ap (λ s. token_cut (s ++ behind)) is.0 ∙ stray_token b behind is.1

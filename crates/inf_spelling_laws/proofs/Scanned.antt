@@ -48,8 +48,7 @@ line_stops (b ∷ bytes) = refl
 pub gap_is : (set : CharSet) (c : Bool) (gap behind : List ℕ) → is_gap set c gap behind ≡ are_gaps set c gap behind
 gap_is set c [] behind = ap (λ t. not c || t) (empty_is behind)
 gap_is set true (b ∷ gap) behind = gap_is set (not (ends_line b)) gap behind
-gap_is set false (b ∷ gap) behind =
-    ap (λ t. cond (b == 33) t (is_space set b && is_gap set false gap behind)) (gap_is set true gap behind)
+gap_is set false (b ∷ gap) behind = ap (λ t. cond (b == 33) t (is_space set b && is_gap set false gap behind)) (gap_is set true gap behind)
     ∙ ap (λ t. cond (b == 33) (are_gaps set true gap behind) (t && is_gap set false gap behind)) (space_is set b)
     ∙ ap (λ t. cond (b == 33) (are_gaps set true gap behind) (is_white set b && t)) (gap_is set false gap behind)
 
@@ -132,8 +131,7 @@ run_find set limit n (b ∷ bytes) seen = by (run_find set limit (n || b == 36) 
         → (t : Bool)
         → (after set limit (cond t (ByteStep.Keep (State.Run (n || b == 36))) (ByteStep.Behind (Ending.Run n))) b seen bytes).ending
         ≡ Ending.Run (n || has_dollar (cond {A = Cut} t (more b (word_cut bytes)) (cut true [] (b ∷ bytes))).taken)
-    by rest true =
-        rest ∙ ap Ending.Run (or_grouped n (b == 36) (has_dollar (word_cut bytes).taken))
+    by rest true = rest ∙ ap Ending.Run (or_grouped n (b == 36) (has_dollar (word_cut bytes).taken))
     by rest false = ap Ending.Run (or_none n)
 
 module _ (set : CharSet) (limit b : ℕ) (bytes : List ℕ) (seen : Sight) (stops : starts_gap set b ≡ false) where
@@ -157,16 +155,14 @@ is_unfit _ = false
 
 text_fits : (set : CharSet) (limit : ℕ) (bytes : List ℕ) (seen : Sight) → is_unfit (find set limit State.Text seen bytes).ending ≡ false
 text_fits set limit [] seen = refl
-text_fits set limit (b ∷ bytes) seen =
-    cond_both (b == 34) (ByteStep.Close Ending.Text) (ByteStep.Keep State.Text)
+text_fits set limit (b ∷ bytes) seen = cond_both (b == 34) (ByteStep.Close Ending.Text) (ByteStep.Keep State.Text)
     (λ s. is_unfit (after set limit s b seen bytes).ending ≡ false)
     (λ _. refl) (λ _. text_fits set limit bytes (kept limit b seen))
 
 quote_fits : (set : CharSet) (limit : ℕ) (bytes : List ℕ) (a : Bool) (seen : Sight)
     → is_unfit (find set limit (State.Quote a) seen bytes).ending ≡ false
 quote_fits set limit [] a seen = refl
-quote_fits set limit (b ∷ bytes) a seen =
-    cond_both (is_line_end b) (ByteStep.Behind Ending.Unclosed)
+quote_fits set limit (b ∷ bytes) a seen = cond_both (is_line_end b) (ByteStep.Behind Ending.Unclosed)
     (cond (b == 39 && not a) (ByteStep.Close Ending.Quote) (ByteStep.Keep (State.Quote (b == 64))))
     (λ s. is_unfit (after set limit s b seen bytes).ending ≡ false)
     (λ _. refl)
@@ -196,11 +192,9 @@ module _ (set : CharSet) (limit b : ℕ) (bytes : List ℕ) (seen : Sight) (stop
 
   last : in_word b ≡ false → (b == 34) ≡ false → (b == 39) ≡ false → (o : Option Mark) → first_mark b ≡ o
       → Nothing (elim o [ Some m ↦ ByteStep.Keep (State.Mark m) | None ↦ ByteStep.Close Ending.Unfit ])
-  last word text quote (Some m) e h =
-      fits_not (is_unfit (find set limit (State.Mark m) (kept 32 b (marked State.Gap seen)) bytes).ending)
+  last word text quote (Some m) e h = fits_not (is_unfit (find set limit (State.Mark m) (kept 32 b (marked State.Gap seen)) bytes).ending)
       (mark_fits set limit m bytes (kept 32 b (marked State.Gap seen))) h
-  last word text quote None e h =
-      and_from (not (in_word b || b == 34 || b == 39)) (is_none (mark_of (b ∷ [])))
+  last word text quote None e h = and_from (not (in_word b || b == 34 || b == 39)) (is_none (mark_of (b ∷ [])))
       (not_from_false (in_word b || b == 34 || b == 39)
       (or_from (in_word b || b == 34) (b == 39) (or_from (in_word b) (b == 34) word text) quote))
       (ap is_none (short_is b ∙ e))
@@ -281,8 +275,7 @@ module _ (set : CharSet) (limit : ℕ) (bytes span behind : List ℕ) (kind : To
   abbrev SpeltAs : Ending → Type 0
   SpeltAs e = Spelt set limit e bytes span behind kind k
 
-  unclosed : kind ≡ kind_of set Ending.Unclosed k
-      → ((span ≡ 34 ∷ bytes) × (list_all (λ b. not (b == 34)) bytes ≡ true) × (behind ≡ []))
+  unclosed : kind ≡ kind_of set Ending.Unclosed k → ((span ≡ 34 ∷ bytes) × (list_all (λ b. not (b == 34)) bytes ≡ true) × (behind ≡ []))
       ⊎ ((span ≡ 39 ∷ bytes) × (is_in_quote false bytes ≡ true) × (is_nothing behind || begins_with is_line_end behind ≡ true))
       → SpeltAs Ending.Unclosed
   unclosed told (inl h) = record { token = OpenText bytes; room = refl; told = told; same = refl; is = h }

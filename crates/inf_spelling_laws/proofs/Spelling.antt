@@ -82,8 +82,7 @@ reads set limit lines rest more =
     let k = skip set limit false p.gap x (begun lines) fits in
     let ends : (find set limit State.Gap (begun lines) rest).ending ≡ (find set limit State.Gap k.later x).ending =
     ap (λ r. (find set limit State.Gap (begun lines) r).ending) i.whole ∙ ap (λ f. f.ending) k.same in
-    let found : p.read.kind ≡ kind_of set (find set limit State.Gap k.later x).ending p.read.kept =
-    ap (λ (r : Read). r.kind) i.is_read
+    let found : p.read.kind ≡ kind_of set (find set limit State.Gap k.later x).ending p.read.kept = ap (λ (r : Read). r.kind) i.is_read
     ∙ ap (kind_of set (find set limit State.Gap (begun lines) rest).ending) (sym (ap (λ (r : Read). r.kept) i.is_read))
     ∙ ap (λ e. kind_of set e p.read.kept) ends in
     let t = read_token set limit i.ending i.bytes p.span p.read.rest p.read.kind p.read.kept k.later i.is_told i.keeps i.span_fits stops
@@ -121,8 +120,7 @@ pub parts_are_spelled : PartsAreSpelled
 parts_are_spelled set limit lines rest more =
     let r = reads set limit lines rest (some_rest rest more) in
     record {
-      spelled = λ q is.
-          subst (λ x. IsSpelled set limit lines rest (piece_of set limit lines x)) (same_part set rest r.part q r.is is)
+      spelled = λ q is. subst (λ x. IsSpelled set limit lines rest (piece_of set limit lines x)) (same_part set rest r.part q r.is is)
           (subst (IsSpelled set limit lines rest) r.same r.spelled);
       parted = λ p is. record { part = r.part; is = r.is; same = same_piece set limit lines rest p r.piece is r.spelled ∙ r.same };
     }
@@ -142,11 +140,7 @@ all_parts set (suc n) (b ∷ rest) le =
     let p = r.part in
     let less : length p.behind ≤ n = omega (arith, shorter p.gap p.span p.behind b rest r.is.whole r.some) in
     let more = all_parts set n p.behind less in
-    record {
-      parts = p ∷ more.parts;
-      whole = ap (λ l. p.gap ++ (p.span ++ l)) more.whole ∙ sym r.is.whole;
-      are = (refl, r.is, more.are);
-    }
+    record { parts = p ∷ more.parts; whole = ap (λ l. p.gap ++ (p.span ++ l)) more.whole ∙ sym r.is.whole; are = (refl, r.is, more.are) }
 
 same_parts : (set : CharSet) (rest : List ℕ) (parts others : List Part) → AreParts set rest parts → AreParts set rest others → others ≡ parts
 same_parts set rest [] [] are these = refl

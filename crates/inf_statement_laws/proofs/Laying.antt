@@ -56,8 +56,7 @@ nested_is context place false w = refl
 
 opening_is : (limits : Limits) (context : Context) (at : Moment) (k : Kind) (w : Compilation)
     → passed at.behind (construct_opened limits context at.place k w) ≡ opened_at context at (opened limits k w.output) w
-opening_is limits context at k w =
-    ap (λ (told : Compilation). passed at.behind (constructs_laid (begun limits k told.constructs) told))
+opening_is limits context at k w = ap (λ (told : Compilation). passed at.behind (constructs_laid (begun limits k told.constructs) told))
     (nested_is context (last_place w.unit.tokens at.place) (is_deep w 1) w)
 
 joining_is : (limits : Limits) (joins : Moment) (c : Construct) (around : List Construct) (w : Compilation) → At c around w
@@ -159,9 +158,7 @@ if_is limits context opens test body closes w e inner =
     (word_read limits context opens Kind.If w)
     (at_word limits context opens Kind.If w e) in
     record {
-      runs =
-          ap (run limits context (test.all ++ (happenings body ++ close closes))) (opening_is limits context opens Kind.If w)
-          ∙ end.runs;
+      runs = ap (run limits context (test.all ++ (happenings body ++ close closes))) (opening_is limits context opens Kind.If w) ∙ end.runs;
       none_ahead = end.none_ahead;
     }
 
@@ -173,8 +170,7 @@ while_is limits context opens test body closes w e inner =
     let end = quiet_body_closed limits context test body inner (opened limits Kind.While w.output).0 w.constructs closes
     (word_read limits context opens Kind.While w) (at_word limits context opens Kind.While w e) in
     record {
-      runs =
-          ap (run limits context (test.all ++ (happenings body ++ close closes))) (opening_is limits context opens Kind.While w)
+      runs = ap (run limits context (test.all ++ (happenings body ++ close closes))) (opening_is limits context opens Kind.While w)
           ∙ end.runs;
       none_ahead = end.none_ahead;
     }
@@ -196,8 +192,7 @@ else_is limits context opens test body joins word other closes w e inner inner_o
     let end = quiet_body_closed limits context word other inner_other joined.0 w.constructs closes (holding joins joined w.constructs first)
     (at_holding joins joined w.constructs first at.none_ahead) in
     record {
-      runs =
-          ap (run limits context (test.all ++ (happenings body ++ Acts joins Action.Else ∷ rest)))
+      runs = ap (run limits context (test.all ++ (happenings body ++ Acts joins Action.Else ∷ rest)))
           (opening_is limits context opens Kind.If w)
           ∙ (run_then limits context test.all (happenings body ++ Acts joins Action.Else ∷ rest) v
           ∙ (run_then limits context (happenings body) (Acts joins Action.Else ∷ rest) tested
@@ -225,8 +220,7 @@ do_is limits context opens body word joins test closes w e inner =
     let end = closed_behind limits context joined.0 w.constructs closes test.all behind (run limits context test.all behind) refl
     (at_quiet limits context test joined.0 w.constructs behind at_behind) in
     record {
-      runs =
-          ap (run limits context (happenings body ++ (word.all ++ Acts joins Action.Until ∷ rest)))
+      runs = ap (run limits context (happenings body ++ (word.all ++ Acts joins Action.Until ∷ rest)))
           (opening_is limits context opens Kind.Do w)
           ∙ (run_then limits context (happenings body) (word.all ++ Acts joins Action.Until ∷ rest) v
           ∙ (ap (run limits context (word.all ++ Acts joins Action.Until ∷ rest)) (inner v at_v.none_ahead).runs
@@ -253,8 +247,7 @@ at_step limits context (StepEnds step ends) c around w at =
     subst (λ v. At (with_step_in v.constructs c) around v) (sym same)
     (record {
       is = kept_step c around (happens limits context (Acts ends Action.EndForStep) front).constructs s.0;
-      none_ahead = s.1
-          ∙ at_front.none_ahead;
+      none_ahead = s.1 ∙ at_front.none_ahead;
     })
 
 -- a statement that is open already is held
@@ -283,8 +276,7 @@ for_is limits context opens start joins test step bracket body closes w e inner 
     let end = quiet_body_closed limits context bracket body inner own w.constructs closes ready
     (record { is = refl; none_ahead = at_own.none_ahead }) in
     record {
-      runs =
-          ap (run limits context (start.all ++ Acts joins Action.ForTop ∷ rest)) (opening_is limits context opens Kind.For w)
+      runs = ap (run limits context (start.all ++ Acts joins Action.ForTop ∷ rest)) (opening_is limits context opens Kind.For w)
           ∙ (run_then limits context start.all (Acts joins Action.ForTop ∷ rest) v
           ∙ (ap (run limits context rest) (joining_is limits joins c.0 w.constructs started at)
           ∙ (run_then limits context test.all (step_happenings step ++ last) behind
@@ -319,8 +311,7 @@ loop_is limits context opens loop ends joins bracket body closes w e inner =
     let end = quiet_body_closed limits context bracket body inner joined.0 w.constructs closes (holding joins joined w.constructs looped)
     (at_holding joins joined w.constructs looped none) in
     record {
-      runs =
-          ap (run limits context (loop.all ++ Acts ends Action.EndObjectloop ∷ Acts joins Action.Loop ∷ rest))
+      runs = ap (run limits context (loop.all ++ Acts ends Action.EndObjectloop ∷ Acts joins Action.Loop ∷ rest))
           (opening_is limits context opens k w)
           ∙ (run_then limits context loop.all (Acts ends Action.EndObjectloop ∷ Acts joins Action.Loop ∷ rest) v
           ∙ (ap (run limits context rest) (joining_is limits joins own w.constructs looped
@@ -352,8 +343,7 @@ switch_is limits context opens value cases brace closes w e inner =
     } in
     let end = closed_behind limits context own w.constructs closes brace.all done inside refl at_own in
     record {
-      runs =
-          ap (run limits context (value.all ++ (happenings cases ++ (brace.all ++ close closes)))) (opening_is limits context opens k w)
+      runs = ap (run limits context (value.all ++ (happenings cases ++ (brace.all ++ close closes)))) (opening_is limits context opens k w)
           ∙ (run_then limits context value.all (happenings cases ++ (brace.all ++ close closes)) v
           ∙ (run_then limits context (happenings cases) (brace.all ++ close closes) valued
           ∙ (ap (run limits context (brace.all ++ close closes)) i.runs
@@ -372,8 +362,7 @@ laid_as limits context (Then {b} before behind) w e =
     let v = laid limits context before w in
     let two = laid_as limits context behind v one.none_ahead in
     record {
-      runs =
-          run_then limits context (happenings before) (happenings behind) w
+      runs = run_then limits context (happenings before) (happenings behind) w
           ∙ (ap (run limits context (happenings behind)) one.runs ∙ two.runs);
       holds = holds_then b w.constructs v.constructs (laid limits context behind v).constructs one.holds two.holds;
       none_ahead = two.none_ahead;
@@ -423,8 +412,7 @@ leaves_open limits context s hs same w e =
     let runs = sym (ap (λ l. run limits context l w) same) ∙ i.runs in
     record {
       same = ap (λ (v : Compilation). v.constructs) runs ∙ i.holds;
-      none_ahead = ap (λ (v : Compilation). v.closed) runs ∙
-          i.none_ahead;
+      none_ahead = ap (λ (v : Compilation). v.closed) runs ∙ i.none_ahead;
     }
 
 rest_nested : (rest : Symbol Action) (hs : List Happening) → IsOneOf rest rests → IsRead rest hs → Compound false rest hs
@@ -457,8 +445,7 @@ alone_behind limits context (Plain plain) w e h = ap own_alone (quiet_run limits
 alone_behind limits context (Then before behind) w e h =
     let one = laid_as limits context before w e in
     alone_behind limits context behind (laid limits context before w) one.none_ahead (alone_behind limits context before w e h)
-alone_behind limits context (Case values ends) w e h =
-    case_alone limits context ends.place (run limits context values.all w)
+alone_behind limits context (Case values ends) w e h = case_alone limits context ends.place (run limits context values.all w)
     (ap own_alone (quiet_run limits context values.all w values.are).0 ∙ h)
 alone_behind limits context other w e h = h
 
@@ -553,11 +540,9 @@ again_ahead limits count m w =
 
 pub closing_ahead_is_closing : (limits : Limits) → ClosingAheadIsClosing limits
 closing_ahead_is_closing limits = record {
-  behind = λ context places m w e.
-      ap (λ v. run limits context (endings places) (passed m v)) (ahead_is limits (length places) w e)
+  behind = λ context places m w e. ap (λ v. run limits context (endings places) (passed m v)) (ahead_is limits (length places) w e)
       ∙ all_ahead limits context m places w e;
-  again = λ count m w e.
-      ap (λ v. closed_ahead limits count (passed m v)) (ahead_is limits count w e)
+  again = λ count m w e. ap (λ v. closed_ahead limits count (passed m v)) (ahead_is limits count w e)
       ∙ (again_ahead limits count m w ∙ sym (ap (passed m) (ahead_is limits count w e)));
 }
 

@@ -4,9 +4,7 @@ use Rattle.std.proofs.Common.{append-nil, inl, inr}
 use Rattle.std.proofs.lemmas.Bool.{and_from, and_parts, eqb-true, or_cases}
 use Rattle.inf_machine.specs.{Grammar.IsOneOf, Grammar.Row, declared.symbols.Symbol.Symbol}
 use Rattle.inf_syntax.specs.declared.actions.Action.{Action}
-use Rattle.inf_syntax.specs.Parts.{ !close, !end_for_step, !end_objectloop, !for_top, !loop, !until, directive_2, do_rest, else_part}
-use Rattle.inf_syntax.specs.Parts.{for_rest, for_rest_3, if_rest, objectloop_rest, statement, switch_rest, switch_rest_1, value_3}
-use Rattle.inf_syntax.specs.Parts.{while_rest}
+use Rattle.inf_syntax.specs.declared.parts.names.TheConstants as Part
 use Rattle.inf_grammar.specs.Language.{grammar}
 use Rattle.inf_statement_laws.specs.Happenings.{Acts, Happening, IsRead, Moment, Quiet, Takes, happen_quietly, happens_quietly, is_quiet}
 use Rattle.inf_statement_laws.specs.Nested.{Case, Do, For, If, IfElse, Nested, NoStep, Objectloop, Plain, Step, StepEnds, Switch, Then}
@@ -106,25 +104,25 @@ nest_parts Of b below (Symbol.Rule rule ∷ symbols) hs p m =
     then_nests b p.0 p.1 hs p.2 (below rule p.0 p.3 both.0) (nest_parts Of b below symbols p.1 p.4 both.1)
 
 -- the body of a statement that holds others
-body_of : (deep : ℕ) → Below deep → (hs : List Happening) → OfRule deep (number statement) hs → Nests false hs
-body_of deep below hs o = below false (number statement) hs o statement_may
+body_of : (deep : ℕ) → Below deep → (hs : List Happening) → OfRule deep (number Part.STATEMENT) hs → Nests false hs
+body_of deep below hs o = below false (number Part.STATEMENT) hs o statement_may
 
 -- The end: only the closing is left.
 record Closing (hs : List Happening) : Type 0 where
   closes : Moment
   same : hs ≡ Acts closes Action.Close ∷ []
 
-closing : (Of : ℕ → List Happening → Type 0) (hs : List Happening) → Parts Of (!close ∷ []) hs → Closing hs
+closing : (Of : ℕ → List Happening → Type 0) (hs : List Happening) → Parts Of (Part.DO_CLOSE ∷ []) hs → Closing hs
 closing Of hs p = record { closes = p.0; same = p.2 ∙ ap (λ l. Acts p.0 Action.Close ∷ l) p.3 }
 
 -- a statement, and then the closing
 record BodyRead (deep : ℕ) (hs : List Happening) : Type 0 where
   body : List Happening
-  of_body : OfRule deep (number statement) body
+  of_body : OfRule deep (number Part.STATEMENT) body
   closes : Moment
   same : hs ≡ body ++ Acts closes Action.Close ∷ []
 
-body_read : (deep : ℕ) (hs : List Happening) → Parts (OfRule deep) (statement ∷ !close ∷ []) hs → BodyRead deep hs
+body_read : (deep : ℕ) (hs : List Happening) → Parts (OfRule deep) (Part.STATEMENT ∷ Part.DO_CLOSE ∷ []) hs → BodyRead deep hs
 body_read deep hs p =
     let c = closing (OfRule deep) p.1 p.4 in
     record { body = p.0; of_body = p.3; closes = c.closes; same = p.2 ∙ ap (λ l. p.0 ++ l) c.same }
@@ -133,16 +131,16 @@ row_parts : (deep rule : ℕ) (hs : List Happening) (parts : List (Symbol Action
     → ((r : Row Action) → IsOneOf r (grammar.rows_of rule) → r.parts ≡ parts) → OfRule (suc deep) rule hs → Parts (OfRule deep) parts hs
 row_parts deep rule hs parts has_row o = subst (λ xs. Parts (OfRule deep) xs hs) (has_row o.0 o.1) o.2
 
-while_nests : (deep : ℕ) (b : Bool) (hs : List Happening) → Below deep → OfRule (suc deep) (number while_rest) hs → Compound b while_rest hs
+while_nests : (deep : ℕ) (b : Bool) (hs : List Happening) → Below deep → OfRule (suc deep) (number Part.WHILE_REST) hs → Compound b
+    Part.WHILE_REST hs
 while_nests deep b hs below o =
-    let p = row_parts deep (number while_rest) hs while_parts while_row o in
-    let s = split (OfRule deep) while_test (statement ∷ !close ∷ []) p.1 p.3 in
+    let p = row_parts deep (number Part.WHILE_REST) hs while_parts while_row o in
+    let s = split (OfRule deep) while_test (Part.STATEMENT ∷ Part.DO_CLOSE ∷ []) p.1 p.3 in
     let body = body_read deep s.rest s.of_rest in
     let inner = body_of deep below body.body body.of_body in
     record {
       nested = While p.0 (quiet_of deep while_test s.front s.of_front quiet_while_test) inner.nested body.closes;
-      same =
-          ap (λ l. Acts p.0 Action.OpenWhile ∷ (s.front ++ (l ++ Acts body.closes Action.Close ∷ []))) inner.same
+      same = ap (λ l. Acts p.0 Action.OpenWhile ∷ (s.front ++ (l ++ Acts body.closes Action.Close ∷ []))) inner.same
           ∙ (ap (λ l. Acts p.0 Action.OpenWhile ∷ (s.front ++ l)) (sym body.same)
           ∙ (ap (λ l. Acts p.0 Action.OpenWhile ∷ l) (sym s.joined) ∙ sym p.2));
       is = refl;
@@ -151,20 +149,21 @@ while_nests deep b hs below o =
 -- The end of an `if` behind its body: its `else`, or the closing alone.
 data ElseRead (deep : ℕ) (hs : List Happening) : Type 0 where
   Without : (closes : Moment) → hs ≡ Acts closes Action.Close ∷ [] → ElseRead deep hs
-  With : (joins : Moment) (word : Quiet) (other : List Happening) (closes : Moment) → OfRule deep (number statement) other
+  With : (joins : Moment) (word : Quiet) (other : List Happening) (closes : Moment) → OfRule deep (number Part.STATEMENT) other
       → hs ≡ Acts joins Action.Else ∷ (word.all ++ (other ++ Acts closes Action.Close ∷ [])) → ElseRead deep hs
 
 else_by : (deep : ℕ) (hs : List Happening) → Parts (OfRule deep) else_parts hs → ElseRead (suc deep) hs
 else_by deep hs p =
-    let s = split (OfRule deep) else_word (statement ∷ !close ∷ []) p.1 p.3 in
+    let s = split (OfRule deep) else_word (Part.STATEMENT ∷ Part.DO_CLOSE ∷ []) p.1 p.3 in
     let body = body_read deep s.rest s.of_rest in
-    With p.0 (quiet_of deep else_word s.front s.of_front refl) body.body body.closes (raised deep (number statement) body.body body.of_body)
+    With p.0 (quiet_of deep else_word s.front s.of_front refl) body.body body.closes (raised deep (number Part.STATEMENT) body.body
+    body.of_body)
     (p.2 ∙ (ap (λ l. Acts p.0 Action.Else ∷ l) s.joined ∙ ap (λ l. Acts p.0 Action.Else ∷ (s.front ++ l)) body.same))
 
 lone_by : (deep : ℕ) (hs : List Happening) → Parts (OfRule deep) lone_parts hs → ElseRead (suc deep) hs
 lone_by deep hs p = let c = closing (OfRule deep) hs p in Without c.closes c.same
 
-else_read : (deep : ℕ) (hs : List Happening) → OfRule deep (number else_part) hs → ElseRead deep hs
+else_read : (deep : ℕ) (hs : List Happening) → OfRule deep (number Part.ELSE_PART) hs → ElseRead deep hs
 else_read zero hs o = absurd o
 else_read (suc deep) hs o =
     elim (else_row o.0 o.1) [
@@ -174,11 +173,10 @@ else_read (suc deep) hs o =
 
 if_by : (deep : ℕ) (b : Bool) (hs body rest : List Happening) (opens : Moment) (test : Quiet) → Below deep
     → hs ≡ Acts opens Action.OpenIf ∷ (test.all ++ (body ++ rest)) → Nests false body → ElseRead deep rest
-    → Compound b if_rest hs
+    → Compound b Part.IF_REST hs
 if_by deep b hs body rest opens test below e inner (Without closes same) = record {
   nested = If opens test inner.nested closes;
-  same =
-      ap (λ l. Acts opens Action.OpenIf ∷ (test.all ++ (l ++ Acts closes Action.Close ∷ []))) inner.same
+  same = ap (λ l. Acts opens Action.OpenIf ∷ (test.all ++ (l ++ Acts closes Action.Close ∷ []))) inner.same
       ∙ (ap (λ l. Acts opens Action.OpenIf ∷ (test.all ++ (body ++ l))) (sym same) ∙ sym e);
   is = refl;
 }
@@ -186,8 +184,7 @@ if_by deep b hs body rest opens test below e inner (With joins word other closes
     let on = body_of deep below other of_other in
     record {
       nested = IfElse opens test inner.nested joins word on.nested closes;
-      same =
-          ap (λ l. Acts opens Action.OpenIf ∷
+      same = ap (λ l. Acts opens Action.OpenIf ∷
           (test.all ++ (l ++ Acts joins Action.Else ∷ (word.all ++ (happenings on.nested ++ Acts closes Action.Close ∷ [])))))
           inner.same
           ∙ (ap (λ l. Acts opens Action.OpenIf ∷
@@ -196,10 +193,11 @@ if_by deep b hs body rest opens test below e inner (With joins word other closes
       is = refl;
     }
 
-if_nests : (deep : ℕ) (b : Bool) (hs : List Happening) → Below deep → OfRule (suc deep) (number if_rest) hs → Compound b if_rest hs
+if_nests : (deep : ℕ) (b : Bool) (hs : List Happening) → Below deep → OfRule (suc deep) (number Part.IF_REST) hs → Compound b Part.IF_REST
+    hs
 if_nests deep b hs below o =
-    let p = row_parts deep (number if_rest) hs if_parts if_row o in
-    let s = split (OfRule deep) if_test (statement ∷ else_part ∷ []) p.1 p.3 in
+    let p = row_parts deep (number Part.IF_REST) hs if_parts if_row o in
+    let s = split (OfRule deep) if_test (Part.STATEMENT ∷ Part.ELSE_PART ∷ []) p.1 p.3 in
     let q = s.of_rest in
     let r = q.4 in
     let whole : s.rest ≡ q.0 ++ r.0 = q.2 ∙ ap (λ l. q.0 ++ l) (r.2 ∙ (ap (λ l. r.0 ++ l) r.4 ∙ append-nil r.0)) in
@@ -207,20 +205,20 @@ if_nests deep b hs below o =
     (p.2 ∙ (ap (λ l. Acts p.0 Action.OpenIf ∷ l) s.joined ∙ ap (λ l. Acts p.0 Action.OpenIf ∷ (s.front ++ l)) whole))
     (body_of deep below q.0 q.3) (else_read deep r.0 r.3)
 
-do_nests : (deep : ℕ) (b : Bool) (hs : List Happening) → Below deep → OfRule (suc deep) (number do_rest) hs → Compound b do_rest hs
+do_nests : (deep : ℕ) (b : Bool) (hs : List Happening) → Below deep → OfRule (suc deep) (number Part.DO_REST) hs → Compound b Part.DO_REST
+    hs
 do_nests deep b hs below o =
-    let p = row_parts deep (number do_rest) hs do_parts do_row o in
+    let p = row_parts deep (number Part.DO_REST) hs do_parts do_row o in
     let q = p.3 in
     let inner = body_of deep below q.0 q.3 in
-    let s = split (OfRule deep) until_word (!until ∷ (until_test ++ !close ∷ [])) q.1 q.4 in
+    let s = split (OfRule deep) until_word (Part.DO_UNTIL ∷ (until_test ++ Part.DO_CLOSE ∷ [])) q.1 q.4 in
     let u = s.of_rest in
-    let t = split (OfRule deep) until_test (!close ∷ []) u.1 u.3 in
+    let t = split (OfRule deep) until_test (Part.DO_CLOSE ∷ []) u.1 u.3 in
     let c = closing (OfRule deep) t.rest t.of_rest in
     record {
       nested = Do p.0 inner.nested (quiet_of deep until_word s.front s.of_front refl) u.0 (quiet_of deep until_test t.front t.of_front
           quiet_until_test) c.closes;
-      same =
-          ap (λ l. Acts p.0 Action.OpenDo ∷ (l ++ (s.front ++ Acts u.0 Action.Until ∷ (t.front ++ Acts c.closes Action.Close ∷ []))))
+      same = ap (λ l. Acts p.0 Action.OpenDo ∷ (l ++ (s.front ++ Acts u.0 Action.Until ∷ (t.front ++ Acts c.closes Action.Close ∷ []))))
           inner.same
           ∙ (ap (λ l. Acts p.0 Action.OpenDo ∷ (q.0 ++ (s.front ++ Acts u.0 Action.Until ∷ (t.front ++ l)))) (sym c.same)
           ∙ (ap (λ l. Acts p.0 Action.OpenDo ∷ (q.0 ++ (s.front ++ Acts u.0 Action.Until ∷ l))) (sym t.joined)
@@ -236,14 +234,14 @@ record StepRead (hs : List Happening) : Type 0 where
 
 step_by : (deep : ℕ) (hs : List Happening) → Parts (OfRule deep) step_parts hs → StepRead hs
 step_by deep hs p =
-    let s = split (OfRule deep) step_front (!end_for_step ∷ []) hs p in
+    let s = split (OfRule deep) step_front (Part.DO_END_FOR_STEP ∷ []) hs p in
     let e = s.of_rest in
     record {
       step = StepEnds (quiet_of deep step_front s.front s.of_front quiet_step_front) e.0;
       same = ap (λ l. s.front ++ Acts e.0 Action.EndForStep ∷ l) (sym e.3) ∙ (ap (λ l. s.front ++ l) (sym e.2) ∙ sym s.joined);
     }
 
-step_read : (deep : ℕ) (hs : List Happening) → OfRule deep (number for_rest_3) hs → StepRead hs
+step_read : (deep : ℕ) (hs : List Happening) → OfRule deep (number Part.FOR_REST_3) hs → StepRead hs
 step_read zero hs o = absurd o
 step_read (suc deep) hs o =
     elim (step_row o.0 o.1) [
@@ -251,15 +249,17 @@ step_read (suc deep) hs o =
       | inr e ↦ record { step = NoStep; same = sym (subst (λ xs. Parts (OfRule deep) xs hs) e o.2) }
     ]
 
-for_nests : (deep : ℕ) (b : Bool) (hs : List Happening) → Below deep → OfRule (suc deep) (number for_rest) hs → Compound b for_rest hs
+for_nests : (deep : ℕ) (b : Bool) (hs : List Happening) → Below deep → OfRule (suc deep) (number Part.FOR_REST) hs → Compound b
+    Part.FOR_REST hs
 for_nests deep b hs below o =
-    let p = row_parts deep (number for_rest) hs for_parts for_row o in
-    let s = split (OfRule deep) for_start (!for_top ∷ (for_test ++ for_rest_3 ∷ (bracket ++ statement ∷ !close ∷ []))) p.1 p.3 in
+    let p = row_parts deep (number Part.FOR_REST) hs for_parts for_row o in
+    let s = split (OfRule deep) for_start (Part.DO_FOR_TOP ∷ (for_test ++ Part.FOR_REST_3 ∷ (bracket ++ Part.STATEMENT ∷ Part.DO_CLOSE ∷
+    []))) p.1 p.3 in
     let u = s.of_rest in
-    let t = split (OfRule deep) for_test (for_rest_3 ∷ (bracket ++ statement ∷ !close ∷ [])) u.1 u.3 in
+    let t = split (OfRule deep) for_test (Part.FOR_REST_3 ∷ (bracket ++ Part.STATEMENT ∷ Part.DO_CLOSE ∷ [])) u.1 u.3 in
     let q = t.of_rest in
     let step = step_read deep q.0 q.3 in
-    let k = split (OfRule deep) bracket (statement ∷ !close ∷ []) q.1 q.4 in
+    let k = split (OfRule deep) bracket (Part.STATEMENT ∷ Part.DO_CLOSE ∷ []) q.1 q.4 in
     let body = body_read deep k.rest k.of_rest in
     let inner = body_of deep below body.body body.of_body in
     let opened = λ (l : List Happening). Acts p.0 Action.OpenFor ∷ l in
@@ -271,8 +271,7 @@ for_nests deep b hs below o =
     record {
       nested = For p.0 (quiet_of deep for_start s.front s.of_front quiet_for_start) u.0 (quiet_of deep for_test t.front t.of_front
           quiet_for_test) step.step (quiet_of deep bracket k.front k.of_front refl) inner.nested body.closes;
-      same =
-          ap (λ l. tested (l ++ (k.front ++ (happenings inner.nested ++ Acts body.closes Action.Close ∷ [])))) step.same
+      same = ap (λ l. tested (l ++ (k.front ++ (happenings inner.nested ++ Acts body.closes Action.Close ∷ [])))) step.same
           ∙ (ap (λ l. bracketed (l ++ Acts body.closes Action.Close ∷ [])) inner.same
           ∙ (ap bracketed (sym body.same)
           ∙ (ap stepped (sym k.joined) ∙ (ap tested (sym q.2)
@@ -280,14 +279,15 @@ for_nests deep b hs below o =
       is = refl;
     }
 
-loop_nests : (deep : ℕ) (b : Bool) (hs : List Happening) → Below deep → OfRule (suc deep) (number objectloop_rest) hs
-    → Compound b objectloop_rest hs
+loop_nests : (deep : ℕ) (b : Bool) (hs : List Happening) → Below deep → OfRule (suc deep) (number Part.OBJECTLOOP_REST) hs
+    → Compound b Part.OBJECTLOOP_REST hs
 loop_nests deep b hs below o =
-    let p = row_parts deep (number objectloop_rest) hs loop_parts loop_row o in
-    let s = split (OfRule deep) loop_unit (!end_objectloop ∷ !loop ∷ (bracket ++ statement ∷ !close ∷ [])) p.1 p.3 in
+    let p = row_parts deep (number Part.OBJECTLOOP_REST) hs loop_parts loop_row o in
+    let s = split (OfRule deep) loop_unit (Part.DO_END_OBJECTLOOP ∷ Part.DO_LOOP ∷ (bracket ++ Part.STATEMENT ∷ Part.DO_CLOSE ∷
+    [])) p.1 p.3 in
     let u = s.of_rest in
     let v = u.3 in
-    let k = split (OfRule deep) bracket (statement ∷ !close ∷ []) v.1 v.3 in
+    let k = split (OfRule deep) bracket (Part.STATEMENT ∷ Part.DO_CLOSE ∷ []) v.1 v.3 in
     let body = body_read deep k.rest k.of_rest in
     let inner = body_of deep below body.body body.of_body in
     let opened = λ (l : List Happening). Acts p.0 Action.OpenObjectloop ∷ l in
@@ -298,29 +298,26 @@ loop_nests deep b hs below o =
     record {
       nested = Objectloop p.0 (quiet_of deep loop_unit s.front s.of_front quiet_loop_unit) u.0 v.0
           (quiet_of deep bracket k.front k.of_front refl) inner.nested body.closes;
-      same =
-          ap (λ l. bracketed (l ++ Acts body.closes Action.Close ∷ [])) inner.same
-          ∙ (ap bracketed (sym body.same)
+      same = ap (λ l. bracketed (l ++ Acts body.closes Action.Close ∷ [])) inner.same ∙ (ap bracketed (sym body.same)
           ∙ (ap joined (sym k.joined) ∙ (ap ended (sym v.2) ∙ (ap units (sym u.2) ∙ (ap opened (sym s.joined) ∙ sym p.2)))));
       is = refl;
     }
 
-switch_nests : (deep : ℕ) (b : Bool) (hs : List Happening) → Below deep → OfRule (suc deep) (number switch_rest) hs
-    → Compound b switch_rest hs
+switch_nests : (deep : ℕ) (b : Bool) (hs : List Happening) → Below deep → OfRule (suc deep) (number Part.SWITCH_REST) hs
+    → Compound b Part.SWITCH_REST hs
 switch_nests deep b hs below o =
-    let p = row_parts deep (number switch_rest) hs switch_parts switch_row o in
-    let s = split (OfRule deep) switch_value (switch_rest_1 ∷ (brace ++ !close ∷ [])) p.1 p.3 in
+    let p = row_parts deep (number Part.SWITCH_REST) hs switch_parts switch_row o in
+    let s = split (OfRule deep) switch_value (Part.SWITCH_REST_1 ∷ (brace ++ Part.DO_CLOSE ∷ [])) p.1 p.3 in
     let q = s.of_rest in
-    let inner = below true (number switch_rest_1) q.0 q.3 cases_may in
-    let k = split (OfRule deep) brace (!close ∷ []) q.1 q.4 in
+    let inner = below true (number Part.SWITCH_REST_1) q.0 q.3 cases_may in
+    let k = split (OfRule deep) brace (Part.DO_CLOSE ∷ []) q.1 q.4 in
     let c = closing (OfRule deep) k.rest k.of_rest in
     let opened = λ (l : List Happening). Acts p.0 Action.OpenSwitch ∷ l in
     let valued = λ (l : List Happening). opened (s.front ++ l) in
     record {
       nested = Switch p.0 (quiet_of deep switch_value s.front s.of_front quiet_switch_value) inner.nested
           (quiet_of deep brace k.front k.of_front refl) c.closes;
-      same =
-          ap (λ l. valued (l ++ (k.front ++ Acts c.closes Action.Close ∷ []))) inner.same
+      same = ap (λ l. valued (l ++ (k.front ++ Acts c.closes Action.Close ∷ []))) inner.same
           ∙ (ap (λ l. valued (q.0 ++ (k.front ++ l))) (sym c.same)
           ∙ (ap (λ l. valued (q.0 ++ l)) (sym k.joined) ∙ (ap valued (sym q.2) ∙ (ap opened (sym s.joined) ∙ sym p.2))));
       is = refl;
@@ -331,30 +328,30 @@ plainly c = record { nested = c.nested; same = c.same }
 
 -- Lemmas about one of the six rules
 data Rest : ℕ → Type 0 where
-  AnIf : Rest (number if_rest)
-  AWhile : Rest (number while_rest)
-  ADo : Rest (number do_rest)
-  AFor : Rest (number for_rest)
-  ALoop : Rest (number objectloop_rest)
-  ASwitch : Rest (number switch_rest)
+  AnIf : Rest (number Part.IF_REST)
+  AWhile : Rest (number Part.WHILE_REST)
+  ADo : Rest (number Part.DO_REST)
+  AFor : Rest (number Part.FOR_REST)
+  ALoop : Rest (number Part.OBJECTLOOP_REST)
+  ASwitch : Rest (number Part.SWITCH_REST)
 
 rest_is : (rule : ℕ) → is_rest rule ≡ true → Rest rule
 rest_is rule e =
-    elim (or_cases (rule == number if_rest) _ e) [
-      | inl f ↦ at (number if_rest) AnIf f
+    elim (or_cases (rule == number Part.IF_REST) _ e) [
+      | inl f ↦ at (number Part.IF_REST) AnIf f
       | inr e ↦
-          elim (or_cases (rule == number while_rest) _ e) [
-            | inl f ↦ at (number while_rest) AWhile f
+          elim (or_cases (rule == number Part.WHILE_REST) _ e) [
+            | inl f ↦ at (number Part.WHILE_REST) AWhile f
             | inr e ↦
-                elim (or_cases (rule == number do_rest) _ e) [
-                  | inl f ↦ at (number do_rest) ADo f
+                elim (or_cases (rule == number Part.DO_REST) _ e) [
+                  | inl f ↦ at (number Part.DO_REST) ADo f
                   | inr e ↦
-                      elim (or_cases (rule == number for_rest) _ e) [
-                        | inl f ↦ at (number for_rest) AFor f
+                      elim (or_cases (rule == number Part.FOR_REST) _ e) [
+                        | inl f ↦ at (number Part.FOR_REST) AFor f
                         | inr e ↦
-                            elim (or_cases (rule == number objectloop_rest) (rule == number switch_rest) e) [
-                              | inl f ↦ at (number objectloop_rest) ALoop f
-                              | inr f ↦ at (number switch_rest) ASwitch f
+                            elim (or_cases (rule == number Part.OBJECTLOOP_REST) (rule == number Part.SWITCH_REST) e) [
+                              | inl f ↦ at (number Part.OBJECTLOOP_REST) ALoop f
+                              | inr f ↦ at (number Part.SWITCH_REST) ASwitch f
                             ]
                       ]
                 ]
@@ -395,23 +392,23 @@ nest_rule (suc deep) b rule hs o e =
 
 -- Lemmas about the texts
 
-pub statement_is_nested : (hs : List Happening) → IsRead statement hs → (s : Nested false) × (happenings s ≡ hs)
+pub statement_is_nested : (hs : List Happening) → IsRead Part.STATEMENT hs → (s : Nested false) × (happenings s ≡ hs)
 statement_is_nested hs is =
-    let d = read_deep (number statement) hs is in
-    let n = nest_rule d.0 false (number statement) hs d.1 statement_may in (n.nested, n.same)
+    let d = read_deep (number Part.STATEMENT) hs is in
+    let n = nest_rule d.0 false (number Part.STATEMENT) hs d.1 statement_may in (n.nested, n.same)
 
-pub body_in : (deep : ℕ) (hs : List Happening) → OfRule deep (number directive_2) hs → (s : Nested true) × (happenings s ≡ hs)
-body_in deep hs o = let n = nest_rule deep true (number directive_2) hs o body_may in (n.nested, n.same)
+pub body_in : (deep : ℕ) (hs : List Happening) → OfRule deep (number Part.DIRECTIVE_2) hs → (s : Nested true) × (happenings s ≡ hs)
+body_in deep hs o = let n = nest_rule deep true (number Part.DIRECTIVE_2) hs o body_may in (n.nested, n.same)
 
-pub body_is_nested : (hs : List Happening) → IsRead directive_2 hs → (s : Nested true) × (happenings s ≡ hs)
+pub body_is_nested : (hs : List Happening) → IsRead Part.DIRECTIVE_2 hs → (s : Nested true) × (happenings s ≡ hs)
 body_is_nested hs is =
-    let d = read_deep (number directive_2) hs is in
-    let n = nest_rule d.0 true (number directive_2) hs d.1 body_may in (n.nested, n.same)
+    let d = read_deep (number Part.DIRECTIVE_2) hs is in
+    let n = nest_rule d.0 true (number Part.DIRECTIVE_2) hs d.1 body_may in (n.nested, n.same)
 
-pub embedded_is_nested : (hs : List Happening) → IsRead value_3 hs → (s : Nested true) × (happenings s ≡ hs)
+pub embedded_is_nested : (hs : List Happening) → IsRead Part.VALUE_3 hs → (s : Nested true) × (happenings s ≡ hs)
 embedded_is_nested hs is =
-    let d = read_deep (number value_3) hs is in
-    let n = nest_rule d.0 true (number value_3) hs d.1 embedded_may in (n.nested, n.same)
+    let d = read_deep (number Part.VALUE_3) hs is in
+    let n = nest_rule d.0 true (number Part.VALUE_3) hs d.1 embedded_may in (n.nested, n.same)
 
 -- where some rules are read deep enough to have a row
 at_row : {P : Type 0} (deep rule : ℕ) (hs : List Happening) → OfRule deep rule hs → ((n : ℕ) → OfRule (suc n) rule hs → P) → P
@@ -421,27 +418,29 @@ at_row (suc n) rule hs o f = f n o
 abbrev Compounds : Symbol Action → Type 0
 Compounds rest = (hs : List Happening) → IsRead rest hs → Compound false rest hs
 
-pub if_is_nested : Compounds if_rest
+pub if_is_nested : Compounds Part.IF_REST
 if_is_nested hs is =
-    let d = read_deep (number if_rest) hs is in at_row d.0 (number if_rest) hs d.1 (λ n o. if_nests n false hs (nest_rule n) o)
+    let d = read_deep (number Part.IF_REST) hs is in at_row d.0 (number Part.IF_REST) hs d.1 (λ n o. if_nests n false hs (nest_rule n) o)
 
-pub while_is_nested : Compounds while_rest
+pub while_is_nested : Compounds Part.WHILE_REST
 while_is_nested hs is =
-    let d = read_deep (number while_rest) hs is in at_row d.0 (number while_rest) hs d.1 (λ n o. while_nests n false hs (nest_rule n) o)
+    let d = read_deep (number Part.WHILE_REST) hs is in at_row d.0 (number Part.WHILE_REST) hs d.1 (λ n o. while_nests n false hs
+    (nest_rule n) o)
 
-pub do_is_nested : Compounds do_rest
+pub do_is_nested : Compounds Part.DO_REST
 do_is_nested hs is =
-    let d = read_deep (number do_rest) hs is in at_row d.0 (number do_rest) hs d.1 (λ n o. do_nests n false hs (nest_rule n) o)
+    let d = read_deep (number Part.DO_REST) hs is in at_row d.0 (number Part.DO_REST) hs d.1 (λ n o. do_nests n false hs (nest_rule n) o)
 
-pub for_is_nested : Compounds for_rest
+pub for_is_nested : Compounds Part.FOR_REST
 for_is_nested hs is =
-    let d = read_deep (number for_rest) hs is in at_row d.0 (number for_rest) hs d.1 (λ n o. for_nests n false hs (nest_rule n) o)
+    let d = read_deep (number Part.FOR_REST) hs is in at_row d.0 (number Part.FOR_REST) hs d.1 (λ n o. for_nests n false hs (nest_rule n) o)
 
-pub objectloop_is_nested : Compounds objectloop_rest
+pub objectloop_is_nested : Compounds Part.OBJECTLOOP_REST
 objectloop_is_nested hs is =
-    let d = read_deep (number objectloop_rest) hs is in at_row d.0 (number objectloop_rest) hs d.1
+    let d = read_deep (number Part.OBJECTLOOP_REST) hs is in at_row d.0 (number Part.OBJECTLOOP_REST) hs d.1
     (λ n o. loop_nests n false hs (nest_rule n) o)
 
-pub switch_is_nested : Compounds switch_rest
+pub switch_is_nested : Compounds Part.SWITCH_REST
 switch_is_nested hs is =
-    let d = read_deep (number switch_rest) hs is in at_row d.0 (number switch_rest) hs d.1 (λ n o. switch_nests n false hs (nest_rule n) o)
+    let d = read_deep (number Part.SWITCH_REST) hs is in at_row d.0 (number Part.SWITCH_REST) hs d.1 (λ n o. switch_nests n false hs
+    (nest_rule n) o)

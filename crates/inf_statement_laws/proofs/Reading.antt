@@ -8,7 +8,7 @@ use Rattle.inf_machine.specs.{Machine.events_of, Machine.fits, Machine.taken, Ma
 use Rattle.inf_machine.specs.Grammar.{Did, Event, IsText, Took, here}
 use Rattle.inf_machine.proofs.Taking.{leads_on}
 use Rattle.inf_syntax.specs.{Atoms.mark_atom, declared.actions.Action.Action}
-use Rattle.inf_syntax.specs.Parts.{ !end_locals, !end_routine, directive, directive_2}
+use Rattle.inf_syntax.specs.declared.parts.names.TheConstants as Part
 use Rattle.inf_grammar.specs.{Evaluated.language_is_decided, Language.grammar, Language.known, Routines.closings}
 use Rattle.inf_compilation.specs.{Actions.Compilation, Actions.took, Context.Context, Nesting.closed_ahead, Nesting.construct_ended}
 use Rattle.inf_unit.specs.{Tokens.SourceToken, Units.first_place, Units.names_in}
@@ -322,15 +322,13 @@ starts limits context (Some m) s own symbols others w e waits i =
     record {
       rest = c.0;
       from = passed m (acted limits context place (ends k) v);
-      acts =
-          ap (λ n. acted limits context place (taken grammar known s.atom symbols).actions
+      acts = ap (λ n. acted limits context place (taken grammar known s.atom symbols).actions
           (next_comes (passed m (closed_ahead limits n w)))) waits.1
           ∙ (ap (λ l. acted limits context place l (passed m (closed_ahead limits k v))) actions
           ∙ (acted_then limits context place (ends k) c.0 (passed m (closed_ahead limits k v))
           ∙ (ap (λ x. acted limits context place c.0 (acted limits context place (ends k) (passed m x))) (ahead_is limits k v e)
           ∙ ap (acted limits context place c.0) (ahead_ends limits context place m k v e))));
-      runs =
-          ap (λ n. run limits context (behind_some n m (token_happenings s.token own (taken grammar known s.atom symbols).actions ++
+      runs = ap (λ n. run limits context (behind_some n m (token_happenings s.token own (taken grammar known s.atom symbols).actions ++
           others)) v)
           waits.1
           ∙ (ap (λ l. run limits context (behind_some k m (token_happenings s.token own l ++ others)) v) actions
@@ -358,8 +356,7 @@ onward : (limits : Limits) (context : Context) (seen : List Seen) (symbols : Lis
     ≡ run limits context (behind_ends d (closings symbols) (all_happenings seen symbols))
     (next_comes (passed (behind_token d (closings symbols) b) w))
 onward limits context seen symbols further None b w e count is = further None (passed b w) e tt
-onward limits context seen symbols further (Some m) b w e (suc count) is =
-    further (Some m) (passed b w) e (count, is)
+onward limits context seen symbols further (Some m) b w e (suc count) is = further (Some m) (passed b w) e (count, is)
     ∙ ap (λ n. run limits context (behind_some (closings symbols) m (all_happenings seen symbols))
     (next_comes (passed (behind_token (Some m) n b) w))) (sym is)
 onward limits context seen symbols further (Some m) b w e zero is =
@@ -401,9 +398,10 @@ all_read limits context (s ∷ seen) symbols l i d w e waits =
 
 routine_of : (n : ℕ) (hs : List Happening) → Parts (OfRule n) routine_parts hs → (r : Routine) × (routine_happenings r ≡ hs)
 routine_of n hs p =
-    let h = split (OfRule n) header_parts (!end_locals ∷ (semicolon_parts ++ directive_2 ∷ !end_routine ∷ last_parts)) hs p in
+    let h = split (OfRule n) header_parts (Part.DO_END_LOCALS ∷ (semicolon_parts ++ Part.DIRECTIVE_2 ∷ Part.DO_END_ROUTINE ∷
+    last_parts)) hs p in
     let e = h.of_rest in
-    let s = split (OfRule n) semicolon_parts (directive_2 ∷ !end_routine ∷ last_parts) e.1 e.3 in
+    let s = split (OfRule n) semicolon_parts (Part.DIRECTIVE_2 ∷ Part.DO_END_ROUTINE ∷ last_parts) e.1 e.3 in
     let q = s.of_rest in
     let body = body_in n q.0 q.3 in
     let l = q.4 in
@@ -418,21 +416,20 @@ routine_of n hs p =
         ends = l.0;
         last = quiet_of n last_parts l.1 l.3 refl;
       },
-      ap (λ x. opened (x ++ Acts l.0 Action.EndRoutine ∷ l.1)) body.1
-          ∙ (ap (λ x. opened (q.0 ++ x)) (sym l.2)
+      ap (λ x. opened (x ++ Acts l.0 Action.EndRoutine ∷ l.1)) body.1 ∙ (ap (λ x. opened (q.0 ++ x)) (sym l.2)
           ∙ (ap opened (sym q.2) ∙ (ap named (sym s.joined) ∙ (ap headed (sym e.2) ∙ sym h.joined)))),
     )
 
 are_routines : (bracket : Seen) (seen : List Seen) → bracket.atom ≡ mark_atom Mark.OpenBracket
-    → all_fit (bracket ∷ seen) (directive ∷ []) ≡ true
-    → left_behind (bracket ∷ seen) (directive ∷ []) ≡ [] → (r : Routine) × (routine_happenings r ≡ all_happenings (bracket ∷ seen)
-    (directive ∷ []))
+    → all_fit (bracket ∷ seen) (Part.DIRECTIVE ∷ []) ≡ true
+    → left_behind (bracket ∷ seen) (Part.DIRECTIVE ∷ []) ≡ [] → (r : Routine) × (routine_happenings r ≡ all_happenings (bracket ∷ seen)
+    (Part.DIRECTIVE ∷ []))
 are_routines bracket seen is f e =
-    let begins : taken grammar known bracket.atom (directive ∷ []) ≡ taken grammar known bracket.atom routine_parts =
-    subst (λ atom. taken grammar known atom (directive ∷ []) ≡ taken grammar known atom routine_parts) (sym is) routine_begins in
+    let begins : taken grammar known bracket.atom (Part.DIRECTIVE ∷ []) ≡ taken grammar known bracket.atom routine_parts =
+    subst (λ atom. taken grammar known atom (Part.DIRECTIVE ∷ []) ≡ taken grammar known atom routine_parts) (sym is) routine_begins in
     let fit : fits grammar known bracket.atom routine_parts ≡ true = ap (λ atom. fits grammar known atom routine_parts) is ∙ routine_fits in
-    let both = and_parts (fits grammar known bracket.atom (directive ∷ []))
-    (all_fit seen (taken grammar known bracket.atom (directive ∷ [])).left) f in
+    let both = and_parts (fits grammar known bracket.atom (Part.DIRECTIVE ∷ []))
+    (all_fit seen (taken grammar known bracket.atom (Part.DIRECTIVE ∷ [])).left) f in
     let t = all_text (bracket ∷ seen) routine_parts
     (and_from (fits grammar known bracket.atom routine_parts) (all_fit seen (taken grammar known bracket.atom routine_parts).left) fit
     (sym (ap (λ n. all_fit seen n.left) begins) ∙ both.1))
@@ -468,14 +465,13 @@ routine_lays limits context r w e =
     ∙ (run_then limits context (happenings r.body) rest (headed limits context r w)
     ∙ ap (run limits context rest) (laid_as limits context r.body (headed limits context r w) (headed_same limits context r w e).0).runs))
 
-read_as : (limits : Limits) (bracket : Seen) (seen : List Seen) (r : Routine) → left_behind (bracket ∷ seen) (directive ∷ []) ≡ []
-    → routine_happenings r ≡ all_happenings (bracket ∷ seen) (directive ∷ []) → AreRoutine limits r (bracket ∷ seen)
+read_as : (limits : Limits) (bracket : Seen) (seen : List Seen) (r : Routine) → left_behind (bracket ∷ seen) (Part.DIRECTIVE ∷ []) ≡ []
+    → routine_happenings r ≡ all_happenings (bracket ∷ seen) (Part.DIRECTIVE ∷ []) → AreRoutine limits r (bracket ∷ seen)
 read_as limits bracket seen r l same =
-    let inside = reading_is_inside (bracket ∷ seen) (directive ∷ []) (sym (ap happen_inside same) ∙ routine_is_inside r) in
+    let inside = reading_is_inside (bracket ∷ seen) (Part.DIRECTIVE ∷ []) (sym (ap happen_inside same) ∙ routine_is_inside r) in
     record {
       same = same;
-      lay = λ context w e.
-          all_read limits context (bracket ∷ seen) (directive ∷ []) l inside None w e tt
+      lay = λ context w e. all_read limits context (bracket ∷ seen) (Part.DIRECTIVE ∷ []) l inside None w e tt
           ∙ (ap (λ hs. run limits context hs (next_comes w)) (sym same) ∙ routine_lays limits context r (next_comes w) e);
     }
 

@@ -5,13 +5,7 @@ use Rattle.std.proofs.lemmas.Bool.{agree_below, agree_below_at, and_parts, cases
 use Rattle.inf_machine.specs.{Machine.fits, Machine.taken, Pieces.all_rows, declared.symbols.Symbol.Symbol}
 use Rattle.inf_machine.specs.Grammar.{IsOneOf, Row, first, has, later}
 use Rattle.inf_syntax.specs.{Atoms.mark_atom, Rows.row, Rows.row_unless, declared.actions.Action.Action}
-use Rattle.inf_syntax.specs.Parts.{ !begin, !close, !else, !end_for_step, !end_if, !end_objectloop, !end_switch, !end_until, !end_while}
-use Rattle.inf_syntax.specs.Parts.{ !for_top, !loop, !open_do, !open_for, !open_if, !open_objectloop, !open_switch, !open_while, !outer}
-use Rattle.inf_syntax.specs.Parts.{ !until, 'close_brace', 'close_parenthesis', 'colon', 'else', 'open_brace', 'open_parenthesis'}
-use Rattle.inf_syntax.specs.Parts.{'semicolon', 'until', directive_2, do_rest, else_part, expression, for_rest, for_rest_1, for_rest_2}
-use Rattle.inf_syntax.specs.Parts.{for_rest_3, if_rest, mark_statement, mark_statement_1, objectloop_rest, statement, statement_3}
-use Rattle.inf_syntax.specs.Parts.{switch_rest, switch_rest_1, top_item, value_3, while_rest, !end_locals, !end_routine, !routine}
-use Rattle.inf_syntax.specs.Parts.{'close_bracket', 'open_bracket', NAME, directive, directive_1, piece}
+use Rattle.inf_syntax.specs.declared.parts.names.TheConstants as Part
 use Rattle.inf_grammar.specs.{Evaluated.rows_past, Language.grammar, Language.known}
 use Rattle.inf_scanner.specs.declared.tokens.Mark.{Mark}
 use Rattle.inf_statement_laws.specs.Happenings.{is_quiet}
@@ -33,8 +27,8 @@ is_quiet_rule rule = has quiet_rules rule
 
 -- Rules of statements, and the rules behind the words of those that hold others
 unfoldable pub is_holding : ℕ → Bool
-is_holding rule = (rule == number statement) || (rule == number statement_3) || (rule == number mark_statement) ||
-    (rule == number mark_statement_1)
+is_holding rule = (rule == number Part.STATEMENT) || (rule == number Part.STATEMENT_3) || (rule == number Part.MARK_STATEMENT) ||
+    (rule == number Part.MARK_STATEMENT_1)
 
 -- Rules of a `switch` and of the top of a routine, in which cases end, as the bits of a number
 abbrev case_rules : ℕ
@@ -44,9 +38,9 @@ unfoldable pub is_case_rule : ℕ → Bool
 is_case_rule rule = has case_rules rule
 
 abbrev pub is_rest : ℕ → Bool
-is_rest rule =
-    (rule == number if_rest) || ((rule == number while_rest) ||
-    ((rule == number do_rest) || ((rule == number for_rest) || ((rule == number objectloop_rest) || (rule == number switch_rest)))))
+is_rest rule = (rule == number Part.IF_REST) || ((rule == number Part.WHILE_REST) ||
+    ((rule == number Part.DO_REST) || ((rule == number Part.FOR_REST) || ((rule == number Part.OBJECTLOOP_REST) || (rule == number
+    Part.SWITCH_REST)))))
 
 abbrev pub is_case : Action → Bool
 is_case Action.EndCase = true
@@ -126,95 +120,95 @@ holding_row true rule is r m = passes is_holding (all_may true) holding_keep_in 
 pub case_row : (rule : ℕ) → is_case_rule rule ≡ true → (r : Row Action) → IsOneOf r (grammar.rows_of rule) → all_may true r.parts ≡ true
 case_row rule is r m = passes is_case_rule (all_may true) cases_keep rule is r m
 
-pub statement_may : may false (number statement) ≡ true
+pub statement_may : may false (number Part.STATEMENT) ≡ true
 unfolding is_quiet_rule is_holding
 statement_may = refl
 
-pub cases_may : may true (number switch_rest_1) ≡ true
+pub cases_may : may true (number Part.SWITCH_REST_1) ≡ true
 unfolding is_quiet_rule is_holding is_case_rule
 cases_may = refl
 
-pub body_may : may true (number directive_2) ≡ true
+pub body_may : may true (number Part.DIRECTIVE_2) ≡ true
 unfolding is_quiet_rule is_holding is_case_rule
 body_may = refl
 
-pub embedded_may : may true (number value_3) ≡ true
+pub embedded_may : may true (number Part.VALUE_3) ≡ true
 unfolding is_quiet_rule is_holding is_case_rule
 embedded_may = refl
 
 -- the text of a routine: items, one behind the other
-pub body_rows : grammar.rows_of (number directive_2) ≡ row (top_item ∷ directive_2 ∷ []) ∷ row [] ∷ []
+pub body_rows : grammar.rows_of (number Part.DIRECTIVE_2) ≡ row (Part.TOP_ITEM ∷ Part.DIRECTIVE_2 ∷ []) ∷ row [] ∷ []
 unfolding grammar
 body_rows = refl
-
-pub embedded_rows : grammar.rows_of (number value_3) ≡ row (top_item ∷ value_3 ∷ []) ∷ row [] ∷ []
-unfolding grammar
-embedded_rows = refl
 
 -- Lemmas about the symbols in the rows of statements that hold others
 
 abbrev pub if_test : List (Symbol Action)
-if_test = 'open_parenthesis' ∷ !begin ∷ !outer ∷ expression ∷ !end_if ∷ 'close_parenthesis' ∷ []
+if_test = Part.OPEN_PARENTHESIS ∷ Part.DO_BEGIN ∷ Part.DO_OUTER ∷ Part.EXPRESSION ∷ Part.DO_END_IF ∷ Part.CLOSE_PARENTHESIS ∷ []
 
 abbrev pub while_test : List (Symbol Action)
-while_test = 'open_parenthesis' ∷ !begin ∷ !outer ∷ expression ∷ !end_while ∷ 'close_parenthesis' ∷ []
+while_test = Part.OPEN_PARENTHESIS ∷ Part.DO_BEGIN ∷ Part.DO_OUTER ∷ Part.EXPRESSION ∷ Part.DO_END_WHILE ∷ Part.CLOSE_PARENTHESIS ∷ []
 
 abbrev pub until_test : List (Symbol Action)
-until_test = 'open_parenthesis' ∷ !begin ∷ !outer ∷ expression ∷ !end_until ∷ 'close_parenthesis' ∷ 'semicolon' ∷ []
+until_test = Part.OPEN_PARENTHESIS ∷ Part.DO_BEGIN ∷ Part.DO_OUTER ∷ Part.EXPRESSION ∷ Part.DO_END_UNTIL ∷ Part.CLOSE_PARENTHESIS ∷
+    Part.SEMICOLON ∷ []
 
 abbrev pub for_start : List (Symbol Action)
-for_start = 'open_parenthesis' ∷ for_rest_1 ∷ []
+for_start = Part.OPEN_PARENTHESIS ∷ Part.FOR_REST_1 ∷ []
 
 abbrev pub for_test : List (Symbol Action)
-for_test = 'colon' ∷ for_rest_2 ∷ 'colon' ∷ []
+for_test = Part.COLON ∷ Part.FOR_REST_2 ∷ Part.COLON ∷ []
 
 abbrev pub step_front : List (Symbol Action)
-step_front = !begin ∷ !outer ∷ expression ∷ []
+step_front = Part.DO_BEGIN ∷ Part.DO_OUTER ∷ Part.EXPRESSION ∷ []
 
 abbrev pub loop_unit : List (Symbol Action)
-loop_unit = 'open_parenthesis' ∷ !begin ∷ !outer ∷ expression ∷ []
+loop_unit = Part.OPEN_PARENTHESIS ∷ Part.DO_BEGIN ∷ Part.DO_OUTER ∷ Part.EXPRESSION ∷ []
 
 abbrev pub switch_value : List (Symbol Action)
-switch_value = 'open_parenthesis' ∷ !begin ∷ !outer ∷ expression ∷ !end_switch ∷ 'close_parenthesis' ∷ 'open_brace' ∷ []
+switch_value = Part.OPEN_PARENTHESIS ∷ Part.DO_BEGIN ∷ Part.DO_OUTER ∷ Part.EXPRESSION ∷ Part.DO_END_SWITCH ∷ Part.CLOSE_PARENTHESIS ∷
+    Part.OPEN_BRACE ∷ []
 
 abbrev pub bracket : List (Symbol Action)
-bracket = 'close_parenthesis' ∷ []
+bracket = Part.CLOSE_PARENTHESIS ∷ []
 
 abbrev pub brace : List (Symbol Action)
-brace = 'close_brace' ∷ []
+brace = Part.CLOSE_BRACE ∷ []
 
 abbrev pub else_word : List (Symbol Action)
-else_word = 'else' ∷ []
+else_word = Part.WORD_ELSE ∷ []
 
 abbrev pub until_word : List (Symbol Action)
-until_word = 'until' ∷ []
+until_word = Part.WORD_UNTIL ∷ []
 
 abbrev pub if_parts : List (Symbol Action)
-if_parts = !open_if ∷ (if_test ++ statement ∷ else_part ∷ [])
+if_parts = Part.DO_OPEN_IF ∷ (if_test ++ Part.STATEMENT ∷ Part.ELSE_PART ∷ [])
 
 abbrev pub else_parts : List (Symbol Action)
-else_parts = !else ∷ (else_word ++ statement ∷ !close ∷ [])
+else_parts = Part.DO_ELSE ∷ (else_word ++ Part.STATEMENT ∷ Part.DO_CLOSE ∷ [])
 
 abbrev pub lone_parts : List (Symbol Action)
-lone_parts = !close ∷ []
+lone_parts = Part.DO_CLOSE ∷ []
 
 abbrev pub while_parts : List (Symbol Action)
-while_parts = !open_while ∷ (while_test ++ statement ∷ !close ∷ [])
+while_parts = Part.DO_OPEN_WHILE ∷ (while_test ++ Part.STATEMENT ∷ Part.DO_CLOSE ∷ [])
 
 abbrev pub do_parts : List (Symbol Action)
-do_parts = !open_do ∷ statement ∷ (until_word ++ !until ∷ (until_test ++ !close ∷ []))
+do_parts = Part.DO_OPEN_DO ∷ Part.STATEMENT ∷ (until_word ++ Part.DO_UNTIL ∷ (until_test ++ Part.DO_CLOSE ∷ []))
 
 abbrev pub for_parts : List (Symbol Action)
-for_parts = !open_for ∷ (for_start ++ !for_top ∷ (for_test ++ for_rest_3 ∷ (bracket ++ statement ∷ !close ∷ [])))
+for_parts = Part.DO_OPEN_FOR ∷ (for_start ++ Part.DO_FOR_TOP ∷ (for_test ++ Part.FOR_REST_3 ∷ (bracket ++ Part.STATEMENT ∷ Part.DO_CLOSE ∷
+    [])))
 
 abbrev pub step_parts : List (Symbol Action)
-step_parts = step_front ++ !end_for_step ∷ []
+step_parts = step_front ++ Part.DO_END_FOR_STEP ∷ []
 
 abbrev pub loop_parts : List (Symbol Action)
-loop_parts = !open_objectloop ∷ (loop_unit ++ !end_objectloop ∷ !loop ∷ (bracket ++ statement ∷ !close ∷ []))
+loop_parts = Part.DO_OPEN_OBJECTLOOP ∷ (loop_unit ++ Part.DO_END_OBJECTLOOP ∷ Part.DO_LOOP ∷ (bracket ++ Part.STATEMENT ∷ Part.DO_CLOSE ∷
+    []))
 
 abbrev pub switch_parts : List (Symbol Action)
-switch_parts = !open_switch ∷ (switch_value ++ switch_rest_1 ∷ (brace ++ !close ∷ []))
+switch_parts = Part.DO_OPEN_SWITCH ∷ (switch_value ++ Part.SWITCH_REST_1 ∷ (brace ++ Part.DO_CLOSE ∷ []))
 
 abbrev HasRow : Symbol Action → List (Symbol Action) → Type 0
 HasRow rule parts = (r : Row Action) → IsOneOf r (grammar.rows_of (number rule)) → r.parts ≡ parts
@@ -227,29 +221,29 @@ one_row : (parts : List (Symbol Action)) (rows : List (Row Action)) → rows ≡
     → r.parts ≡ parts
 one_row parts rows e r m = only (row parts) r (subst (λ l. IsOneOf r l) e m)
 
-pub if_row : HasRow if_rest if_parts
+pub if_row : HasRow Part.IF_REST if_parts
 unfolding grammar
-if_row = one_row if_parts (grammar.rows_of (number if_rest)) refl
+if_row = one_row if_parts (grammar.rows_of (number Part.IF_REST)) refl
 
-pub while_row : HasRow while_rest while_parts
+pub while_row : HasRow Part.WHILE_REST while_parts
 unfolding grammar
-while_row = one_row while_parts (grammar.rows_of (number while_rest)) refl
+while_row = one_row while_parts (grammar.rows_of (number Part.WHILE_REST)) refl
 
-pub do_row : HasRow do_rest do_parts
+pub do_row : HasRow Part.DO_REST do_parts
 unfolding grammar
-do_row = one_row do_parts (grammar.rows_of (number do_rest)) refl
+do_row = one_row do_parts (grammar.rows_of (number Part.DO_REST)) refl
 
-pub for_row : HasRow for_rest for_parts
+pub for_row : HasRow Part.FOR_REST for_parts
 unfolding grammar
-for_row = one_row for_parts (grammar.rows_of (number for_rest)) refl
+for_row = one_row for_parts (grammar.rows_of (number Part.FOR_REST)) refl
 
-pub loop_row : HasRow objectloop_rest loop_parts
+pub loop_row : HasRow Part.OBJECTLOOP_REST loop_parts
 unfolding grammar
-loop_row = one_row loop_parts (grammar.rows_of (number objectloop_rest)) refl
+loop_row = one_row loop_parts (grammar.rows_of (number Part.OBJECTLOOP_REST)) refl
 
-pub switch_row : HasRow switch_rest switch_parts
+pub switch_row : HasRow Part.SWITCH_REST switch_parts
 unfolding grammar
-switch_row = one_row switch_parts (grammar.rows_of (number switch_rest)) refl
+switch_row = one_row switch_parts (grammar.rows_of (number Part.SWITCH_REST)) refl
 
 -- one of two rows
 abbrev HasRows : Symbol Action → List (Symbol Action) → List (Symbol Action) → Type 0
@@ -264,13 +258,13 @@ two_rows : (x y : Row Action) (rows : List (Row Action)) → rows ≡ x ∷ y �
     → (r.parts ≡ x.parts) ⊎ (r.parts ≡ y.parts)
 two_rows x y rows e r m = either x y r (subst (λ l. IsOneOf r l) e m)
 
-pub else_row : HasRows else_part else_parts lone_parts
+pub else_row : HasRows Part.ELSE_PART else_parts lone_parts
 unfolding grammar
-else_row = two_rows (row else_parts) (row_unless 115 lone_parts) (grammar.rows_of (number else_part)) refl
+else_row = two_rows (row else_parts) (row_unless 115 lone_parts) (grammar.rows_of (number Part.ELSE_PART)) refl
 
-pub step_row : HasRows for_rest_3 step_parts []
+pub step_row : HasRows Part.FOR_REST_3 step_parts []
 unfolding grammar
-step_row = two_rows (row step_parts) (row []) (grammar.rows_of (number for_rest_3)) refl
+step_row = two_rows (row step_parts) (row []) (grammar.rows_of (number Part.FOR_REST_3)) refl
 
 -- The symbols beside their own actions, and bodies, are quiet.
 pub quiet_if_test : all_quiet if_test ≡ true
@@ -308,28 +302,29 @@ quiet_switch_value = refl
 -- Lemmas about a routine
 
 abbrev pub header_parts : List (Symbol Action)
-header_parts = !routine ∷ 'open_bracket' ∷ NAME ∷ directive_1 ∷ []
+header_parts = Part.DO_ROUTINE ∷ Part.OPEN_BRACKET ∷ Part.NAME ∷ Part.DIRECTIVE_1 ∷ []
 
 abbrev pub semicolon_parts : List (Symbol Action)
-semicolon_parts = 'semicolon' ∷ []
+semicolon_parts = Part.SEMICOLON ∷ []
 
 abbrev pub last_parts : List (Symbol Action)
-last_parts = 'close_bracket' ∷ 'semicolon' ∷ []
+last_parts = Part.CLOSE_BRACKET ∷ Part.SEMICOLON ∷ []
 
 abbrev pub routine_parts : List (Symbol Action)
-routine_parts = header_parts ++ !end_locals ∷ (semicolon_parts ++ directive_2 ∷ !end_routine ∷ last_parts)
+routine_parts = header_parts ++ Part.DO_END_LOCALS ∷ (semicolon_parts ++ Part.DIRECTIVE_2 ∷ Part.DO_END_ROUTINE ∷ last_parts)
 
 pub quiet_header : all_quiet header_parts ≡ true
 unfolding is_quiet_rule
 quiet_header = refl
 
 -- a bracket begins a routine, of all pieces and directives
-pub piece_begins : taken grammar known (mark_atom Mark.OpenBracket) (piece ∷ []) ≡ taken grammar known (mark_atom Mark.OpenBracket)
-    (directive ∷ [])
+pub piece_begins : taken grammar known (mark_atom Mark.OpenBracket) (Part.PIECE ∷ []) ≡ taken grammar known (mark_atom Mark.OpenBracket)
+    (Part.DIRECTIVE ∷ [])
 unfolding grammar known
 piece_begins = refl
 
-pub routine_begins : taken grammar known (mark_atom Mark.OpenBracket) (directive ∷ []) ≡ taken grammar known (mark_atom Mark.OpenBracket)
+pub routine_begins : taken grammar known (mark_atom Mark.OpenBracket) (Part.DIRECTIVE ∷
+    []) ≡ taken grammar known (mark_atom Mark.OpenBracket)
     routine_parts
 unfolding grammar known
 routine_begins = refl

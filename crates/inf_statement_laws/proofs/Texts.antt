@@ -38,8 +38,7 @@ split Of (Symbol.Token class ∷ xs) ys hs p =
     record {
       front = Takes p.0.0 p.0.1 ∷ on.front;
       rest = on.rest;
-      joined = p.2
-          ∙ ap (λ l. Takes p.0.0 p.0.1 ∷ l) on.joined;
+      joined = p.2 ∙ ap (λ l. Takes p.0.0 p.0.1 ∷ l) on.joined;
       of_front = (p.0, on.front, refl, on.of_front);
       of_rest = on.of_rest;
     }
@@ -48,8 +47,7 @@ split Of (Symbol.Act a ∷ xs) ys hs p =
     record {
       front = Acts p.0 a ∷ on.front;
       rest = on.rest;
-      joined = p.2
-          ∙ ap (λ l. Acts p.0 a ∷ l) on.joined;
+      joined = p.2 ∙ ap (λ l. Acts p.0 a ∷ l) on.joined;
       of_front = (p.0, on.front, refl, on.of_front);
       of_rest = on.of_rest;
     }
@@ -98,14 +96,7 @@ by_row : (rule : ℕ) (r : Row Action) (symbols : List (Symbol Action)) (hs : Li
 by_row rule r symbols hs m d =
     let s = split (OfRule d.0) r.parts symbols hs d.1 in (
       suc d.0,
-      (
-        s.front,
-        s.rest,
-        s.joined,
-        (r, m, s.of_front),
-        raised_parts (OfRule d.0) (OfRule (suc d.0)) (raised d.0) symbols s.rest
-            s.of_rest,
-      ),
+      (s.front, s.rest, s.joined, (r, m, s.of_front), raised_parts (OfRule d.0) (OfRule (suc d.0)) (raised d.0) symbols s.rest s.of_rest),
     )
 
 at_end : (hs : List Happening) → AreOf [] hs → Deep [] hs

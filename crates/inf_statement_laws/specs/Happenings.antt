@@ -4,7 +4,8 @@ use Rattle.std.specs.Prelude.{◌≡◌, ℕ, ◌&&◌, Bool, true, false, List,
 use Rattle.inf_scanner.specs.declared.tokens.Place.{Place}
 use Rattle.inf_machine.specs.{Grammar.Did, Grammar.Event, Grammar.IsText, Grammar.Took, declared.symbols.Symbol.Symbol}
 use Rattle.inf_syntax.specs.declared.actions.Action.{Action}
-use Rattle.inf_syntax.specs.Parts.{directive_2, do_rest, for_rest, if_rest, objectloop_rest, switch_rest, value_3, while_rest}
+use Rattle.inf_syntax.specs.declared.parts.names.TheConstants as Part
+use Part.{DIRECTIVE_2, DO_REST, FOR_REST, IF_REST, OBJECTLOOP_REST, SWITCH_REST, VALUE_3, WHILE_REST}
 use Rattle.inf_grammar.specs.Language.{grammar}
 use Rattle.inf_output.specs.Output.{Out}
 use Rattle.inf_unit.specs.{Directives.Request, Messages.Reported, Roles.role_of, Tokens.SourceToken, declared.roles.Ending.Ending}
@@ -44,11 +45,11 @@ pub record IsRead (symbol : Symbol Action) (happenings : List Happening) : Type 
 
 -- the rules behind the words of the statements that hold others
 abbrev pub rests : List (Symbol Action)
-rests = if_rest ∷ while_rest ∷ do_rest ∷ for_rest ∷ objectloop_rest ∷ switch_rest ∷ []
+rests = IF_REST ∷ WHILE_REST ∷ DO_REST ∷ FOR_REST ∷ OBJECTLOOP_REST ∷ SWITCH_REST ∷ []
 
 -- the rules between the header and the end of a routine, and of one that is a value of a property
 abbrev pub bodies : List (Symbol Action)
-bodies = directive_2 ∷ value_3 ∷ []
+bodies = DIRECTIVE_2 ∷ VALUE_3 ∷ []
 
 -- Whether an action neither opens a statement that holds others nor goes on with one nor ends one, whatever unit it may
 -- end. Actions outside of statements count as ones that do.

@@ -3,7 +3,9 @@ use Rattle.std.specs.Prelude.{◌≡◌, ℕ, Bool, true, false, List, [], ◌�
 use Rattle.inf_settings.specs.Bounds.{Limits}
 use Rattle.inf_scanner.specs.{declared.tokens.Mark.Mark, declared.tokens.Place.Place}
 use Rattle.inf_machine.specs.{Grammar.IsOneOf, Machine.events_of, Machine.taken, declared.symbols.Symbol.Symbol}
-use Rattle.inf_syntax.specs.{Atoms.mark_atom, Parts.directive, Parts.piece, Parts.statement, declared.actions.Action.Action}
+use Rattle.inf_syntax.specs.{Atoms.mark_atom, declared.actions.Action.Action}
+use Rattle.inf_syntax.specs.declared.parts.names.TheConstants as Part
+use Part.{DIRECTIVE, PIECE, STATEMENT}
 use Rattle.inf_grammar.specs.Language.{grammar, known}
 use Rattle.inf_unit.specs.{Messages.FileNames, Tokens.SourceToken}
 use Rattle.inf_compilation.specs.{Actions.Compilation, Actions.begun_at, Actions.took, Context.Context, Nesting.closed_ahead}
@@ -39,7 +41,7 @@ LeavesOpen limits context hs = (w : Compilation) → w.closed ≡ 0 → StaysOpe
 
 -- The statements around a statement stay as they are, whatever it holds and whatever faults it has.
 pub record StatementsLeaveWhatIsOpen (limits : Limits) : Type 0 where
-  pub of_statements : (context : Context) (hs : List Happening) → IsRead statement hs → LeavesOpen limits context hs
+  pub of_statements : (context : Context) (hs : List Happening) → IsRead STATEMENT hs → LeavesOpen limits context hs
   pub of_rests : (context : Context) (rest : Symbol Action) (hs : List Happening) → IsOneOf rest rests → IsRead rest hs
       → LeavesOpen limits context hs
 
@@ -50,7 +52,8 @@ pub record IsWhole (limits : Limits) {b : Bool} (context : Context) (s : Nested 
 
 -- Each statement is nested and laid as a whole. One that holds others is one of its own word.
 pub record StatementsAreLaidWhole (limits : Limits) : Type 0 where
-  pub of_statements : (context : Context) (hs : List Happening) → IsRead statement hs → (s : Nested false) × IsWhole limits context s hs
+  pub of_statements : (context : Context) (hs : List Happening) → IsRead STATEMENT hs → (s : Nested false) × IsWhole limits context
+      s hs
   pub of_rests : (context : Context) (rest : Symbol Action) (hs : List Happening) → IsOneOf rest rests → IsRead rest hs
       → (s : Nested false) × (rest_of s ≡ Some rest) × IsWhole limits context s hs
 
@@ -70,18 +73,18 @@ pub record RoutinesAreLaidWhole (limits : Limits) : Type 0 where
 -- Tells whether tokens are those of a routine, and lay it as a whole, also with conditional directives among them, which
 -- close statements ahead.
 pub record AreRoutine (limits : Limits) (r : Routine) (seen : List Seen) : Type 0 where
-  pub same : routine_happenings r ≡ all_happenings seen (directive ∷ [])
+  pub same : routine_happenings r ≡ all_happenings seen (DIRECTIVE ∷ [])
   pub lay : (context : Context) (w : Compilation) → w.closed ≡ 0
-      → next_comes (all_taken limits context seen (directive ∷ []) w) ≡ routine_laid limits context r (next_comes w)
+      → next_comes (all_taken limits context seen (DIRECTIVE ∷ []) w) ≡ routine_laid limits context r (next_comes w)
 
 -- A routine is read, from its bracket on, by tokens that fit up to where no symbol is left: its header, its statements, and
 -- its end, before which no statement is open where none was before the header.
 pub record RoutinesAreReadWhole (limits : Limits) : Type 0 where
   pub are : (bracket : Seen) (seen : List Seen) → bracket.atom ≡ mark_atom Mark.OpenBracket
-      → all_fit (bracket ∷ seen) (directive ∷ []) ≡ true → left_behind (bracket ∷ seen) (directive ∷ []) ≡ []
+      → all_fit (bracket ∷ seen) (DIRECTIVE ∷ []) ≡ true → left_behind (bracket ∷ seen) (DIRECTIVE ∷ []) ≡ []
       → (r : Routine) × AreRoutine limits r (bracket ∷ seen)
-  pub begin : taken grammar known (mark_atom Mark.OpenBracket) (piece ∷ [])
-      ≡ taken grammar known (mark_atom Mark.OpenBracket) (directive ∷ [])
+  pub begin : taken grammar known (mark_atom Mark.OpenBracket) (PIECE ∷ [])
+      ≡ taken grammar known (mark_atom Mark.OpenBracket) (DIRECTIVE ∷ [])
   pub end : (context : Context) (r : Routine) (w : Compilation) → w.closed ≡ 0 → w.constructs ≡ []
       → depth (body_laid limits context r w).constructs ≡ 0
 

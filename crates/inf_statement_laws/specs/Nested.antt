@@ -2,7 +2,8 @@
 use Rattle.std.specs.Prelude.{Bool, true, false, List, [], ◌∷◌, ◌++◌, Option, Some, None}
 use Rattle.inf_machine.specs.declared.symbols.Symbol.{Symbol}
 use Rattle.inf_syntax.specs.declared.actions.Action.{Action}
-use Rattle.inf_syntax.specs.Parts.{do_rest, for_rest, if_rest, objectloop_rest, switch_rest, while_rest}
+use Rattle.inf_syntax.specs.declared.parts.names.TheConstants as Part
+use Part.{DO_REST, FOR_REST, IF_REST, OBJECTLOOP_REST, SWITCH_REST, WHILE_REST}
 use Rattle.inf_statement_laws.specs.Happenings.{Acts, Happening, Moment, Quiet}
 
 -- the step of a `for`, which may be missing
@@ -59,11 +60,11 @@ happenings (Switch opens value cases brace closes) =
 
 -- the rule by which the rest of a statement that holds others is read
 abbrev pub rest_of : {b : Bool} → Nested b → Option (Symbol Action)
-rest_of (If opens test body closes) = Some if_rest
-rest_of (IfElse opens test body joins word other closes) = Some if_rest
-rest_of (While opens test body closes) = Some while_rest
-rest_of (Do opens body word joins test closes) = Some do_rest
-rest_of (For opens start joins test step bracket body closes) = Some for_rest
-rest_of (Objectloop opens loop ends joins bracket body closes) = Some objectloop_rest
-rest_of (Switch opens value cases brace closes) = Some switch_rest
+rest_of (If opens test body closes) = Some IF_REST
+rest_of (IfElse opens test body joins word other closes) = Some IF_REST
+rest_of (While opens test body closes) = Some WHILE_REST
+rest_of (Do opens body word joins test closes) = Some DO_REST
+rest_of (For opens start joins test step bracket body closes) = Some FOR_REST
+rest_of (Objectloop opens loop ends joins bracket body closes) = Some OBJECTLOOP_REST
+rest_of (Switch opens value cases brace closes) = Some SWITCH_REST
 rest_of _ = None

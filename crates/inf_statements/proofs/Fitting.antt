@@ -49,8 +49,7 @@ row_parts row operands has_variable e is =
       enough = leb-true row.least operands c.0;
       few = leb-true operands row.most c.1;
       eight = leb-true operands 8 d.1;
-      variable =
-          b.1;
+      variable = b.1;
       ends = ends_parts row e a.1;
     }
 
@@ -79,8 +78,7 @@ prints_text op is =
       none = eqb-true row.least 0 a.1;
       stores = not_true row.stores c.1;
       branches = not_true row.branches b.1;
-      jump = not_true
-          row.jumps d.1;
+      jump = not_true row.jumps d.1;
       text = d.0;
     }
 
@@ -128,8 +126,7 @@ takes_named limits op nodes roots e store branch stores branches jumps text name
       enough = omega (arith, row.enough, one, len);
       few = omega (arith, row.few, one, len);
       jump = jumps;
-      stores = stores ∙
-          row.ends.stores;
+      stores = stores ∙ row.ends.stores;
       branches = branches ∙ row.ends.branches;
       text = text;
     }

@@ -127,8 +127,7 @@ module _ {limits : Limits} {Q : Premises} where
   given_grows : (number : Option ℕ) (head : VerbHead) (tokens : List SourceToken) (o : Out)
       → Grown limits Q o (words_given limits number head tokens o)
   given_grows None head tokens o = Stays
-  given_grows (Some number) head tokens o =
-      Follows (words_grow head.end tokens (verb_use number head.is_meta) o)
+  given_grows (Some number) head tokens o = Follows (words_grow head.end tokens (verb_use number head.is_meta) o)
       (like_grows head.like tokens number (words_used limits head.end tokens (verb_use number head.is_meta) o))
 
   opened_grows : (head : VerbHead) (tokens : List SourceToken) (o : Out) → Grown limits Q o (verb_opened limits head tokens o).0
@@ -145,8 +144,7 @@ module _ {limits : Limits} {Q : Premises} where
   lines_grow number place o = go (has_verb number o)
     where
       go : (b : Bool) → Grown limits Q o (if b then with_verbs (with_extended number place o.tables.verbs) o else o)
-      go true =
-          verbs_grow (with_extended number place o.tables.verbs)
+      go true = verbs_grow (with_extended number place o.tables.verbs)
           (λ u b h. verbs_set u o.tables.verbs.list number (extended place (verb_at number o.tables.verbs))
           (extended_stands u place (verb_at number o.tables.verbs) (verb_stands u o.tables.verbs.list number h)) h)
       go false = Stays
@@ -213,8 +211,7 @@ module _ {limits : Limits} {Q : Premises} where
 
   one_by_grows : (f : Option LineFault) (number : ℕ) (place : LinePlace) (line : LineOf) (o : Out)
       → ((u : Out) → Before u o → TokensStand u line.tokens) → Grown limits Q o (one_line_by limits f number place line o)
-  one_by_grows None number place line o stands =
-      verbs_grow (with_line_of number place line o.tables.verbs)
+  one_by_grows None number place line o stands = verbs_grow (with_line_of number place line o.tables.verbs)
       (λ u b h. verbs_set u o.tables.verbs.list number (with_line place line (verb_at number o.tables.verbs))
       (line_stands u place line (verb_at number o.tables.verbs) (stands u b) (verb_stands u o.tables.verbs.list number h)) h)
   one_by_grows (Some f) number place line o stands = Passes Setting.GrammarLines
@@ -296,11 +293,10 @@ module _ {limits : Limits} {context : Context} {Q : Premises} where
 
   extend_with_steps : (first : Place) (at : ℕ) (number : Option ℕ) (place : LinePlace) (w : Compilation)
       → Walks limits context Q (extend_with limits context first at number place) w
-  extend_with_steps first at number place w r =
-      Ends first false (verb_findings (no_verb_finding at number)) (record w {
-        extending = lines_of number place;
-        output = verb_extended limits number place (word_at w.unit.tokens at) w.output;
-      }) (Puts (extended_grows number place (word_at w.unit.tokens at) w.output) (λ u h. h) refl)
+  extend_with_steps first at number place w r = Ends first false (verb_findings (no_verb_finding at number)) (record w {
+    extending = lines_of number place;
+    output = verb_extended limits number place (word_at w.unit.tokens at) w.output;
+  }) (Puts (extended_grows number place (word_at w.unit.tokens at) w.output) (λ u h. h) refl)
 
   pub extend_steps : (first : Place) (w : Compilation) → Walks limits context Q (extend_header limits context first) w
   extend_steps first w =
@@ -315,8 +311,7 @@ module _ {limits : Limits} {context : Context} {Q : Premises} where
 
   -- Fake actions
 
-  pub fake_steps : (first : Place) (names : List Name) (w : Compilation)
-      → Walks limits context Q (fake_action limits context first names) w
+  pub fake_steps : (first : Place) (names : List Name) (w : Compilation) → Walks limits context Q (fake_action limits context first names) w
   fake_steps first [] w r = passed_steps true w r
   fake_steps first (name ∷ names) w r =
       let f = faked limits name.bytes name.place w.output in
@@ -326,8 +321,7 @@ module _ {limits : Limits} {context : Context} {Q : Premises} where
 module _ {limits : Limits} {context : Context} {Q : Premises} where
   -- Directives
 
-  fit_ends : (first : Place) (w : Compilation)
-      → Walks limits context Q (fit_ended limits context first) w
+  fit_ends : (first : Place) (w : Compilation) → Walks limits context Q (fit_ended limits context first) w
   fit_ends first w = unit_ends first true nothing_found w
 
   carried_steps : (d : Directive) (first : Place) (names : List Name) (w : Compilation) → Q Ending.Directive
@@ -358,8 +352,7 @@ module _ {limits : Limits} {context : Context} {Q : Premises} where
       After {x = record w { is_system = true }} {s = r} (Rests (λ u h. h) refl) (fit_ends first (record w { is_system = true }) r)
 
   -- the limits are told behind a directive, with which code begins or not
-  worked_steps : (d : Directive) (first : Place) (names : List Name) (w : Compilation) → Q Ending.Directive
-      → Walks limits context Q
+  worked_steps : (d : Directive) (first : Place) (names : List Name) (w : Compilation) → Q Ending.Directive → Walks limits context Q
       (λ w. limits_told limits context first (carried_out limits d context first names (code_begun_by limits d w))) w
   worked_steps Directive.Switches first names w q r =
       Behind (limits_told limits context first) (carried_steps Directive.Switches first names w q r) (λ s. Checks first)
@@ -407,8 +400,7 @@ module _ {limits : Limits} {context : Context} {Q : Premises} where
       After {x = v} {s = r} (unit_steps w (unit_noted n w.unit) r) (steps_if (makes_sure n) Sizes (stays v r))
 
   noted_steps : (n : Note) (w : Compilation) → Walks limits context Q (noted limits context n) w
-  noted_steps n w r =
-      steps_if (is_text n && is_crowded limits w) (unit_steps w _ r)
+  noted_steps n w r = steps_if (is_text n && is_crowded limits w) (unit_steps w _ r)
       (steps_if (is_arrow n && is_tall context w) (unit_steps w _ r)
       (steps_if (ends_outer n && is_full w.unit) (Rests (λ u h. h) refl)
       (steps_if (ends_token n && is_long context w) (Rests (λ u h. h) refl)
@@ -461,14 +453,12 @@ module _ {limits : Limits} {context : Context} {Q : Premises} where
   acted_steps : ((e : Ending) → Q e) → (place : Place) (actions : List Action) (w : Compilation)
       → Walks limits context Q (acted limits context place actions) w
   acted_steps q place [] w r = stays w r
-  acted_steps q place (a ∷ actions) w r =
-      Behind (acted limits context place actions) (act_steps place a w (λ e is. q e) r)
+  acted_steps q place (a ∷ actions) w r = Behind (acted limits context place actions) (act_steps place a w (λ e is. q e) r)
       (acted_steps q place actions (act limits context place a w))
 
   pub all_acted_steps : ((e : Ending) → Q e) → (place : Place) (actions : List Action) (w : Compilation)
       → Walks limits context Q (all_acted limits context place actions) w
-  all_acted_steps q place actions w r =
-      After {x = record w { opening = None }} {s = r} (Rests (λ u h. h) refl)
+  all_acted_steps q place actions w r = After {x = record w { opening = None }} {s = r} (Rests (λ u h. h) refl)
       (acted_steps q place actions (record w { opening = None }) r)
 
   -- Lemmas about tokens

@@ -107,9 +107,7 @@ module _ {limits : Limits} {Q : Premises} where
       w = o.tables.world
 
       go : (f : Option WorldFault) → Grown limits Q o (lost_begun_by f o)
-      go None =
-          world_grows (with_lost_header w)
-          (λ u b. header_holds u w.declared w.objects w.body.properties.own w.body.properties.above)
+      go None = world_grows (with_lost_header w) (λ u b. header_holds u w.declared w.objects w.body.properties.own w.body.properties.above)
       go (Some f) = Stays
 
   class_declared_grows : (name : Name) (number : ℕ) (o : Out) → Grown limits Q o (class_declared limits name number o)
@@ -124,8 +122,7 @@ module _ {limits : Limits} {Q : Premises} where
       w = o.tables.world
 
       go : (f : Option WorldFault) → Grown limits Q o (class_begun_by limits f short name o)
-      go None =
-          Follows {p = with_world (with_class_header short w) o} (world_grows (with_class_header short w)
+      go None = Follows {p = with_world (with_class_header short w) o} (world_grows (with_class_header short w)
           (λ u b. header_holds u w.declared w.objects w.body.properties.own w.body.properties.above))
           (class_declared_grows name (5 + length w.objects) (with_world (with_class_header short w) o))
       go (Some f) = Follows (noted_grows f o) (class_declared_grows name 0 (noted limits f o))
@@ -232,8 +229,7 @@ module _ {limits : Limits} {Q : Premises} where
       named = individual_declared_grows name number p
 
       go : (f : Option WorldFault) → Grown limits Q (individual_given_by limits f name v o) x → Grown limits Q o x
-      go None later =
-          Follows {p = p} (other refl (λ u h. h)) (Follows named
+      go None later = Follows {p = p} (other refl (λ u h. h)) (Follows named
           (given_grows number v (individual_declared limits name number p) x (λ u b e. stands u (before named u b) e) later))
       go (Some f) later = later
 
@@ -272,8 +268,7 @@ module _ {limits : Limits} {Q : Premises} where
       → ((u : Out) → Before u w.output → Before u x → placed_finding limits name v of_value w ≡ None → ValueStands u v)
       → Grown limits Q (placed limits name v of_value w).output x → Grown limits Q w.output x
   placed_grows None v of_value w x stands later = further_placed_grows (further_found limits v of_value w) v w x stands later
-  placed_grows (Some at) v of_value w x stands later =
-      given_with_grows (given_finding limits at (Some v) of_value w) at (Some v)
+  placed_grows (Some at) v of_value w x stands later = given_with_grows (given_finding limits at (Some v) of_value w) at (Some v)
       (record w { is_name = is_words (property_of (found_at at w)) }) x stands later
 
 -- The findings about a value and about its property do not depend on what was reported.
@@ -376,8 +371,7 @@ module _ {limits : Limits} {Q : Premises} where
   word_lays : (told : Option Finding) (items : List TextItem) {w p t : Compilation} {r : Reported} → Same r w p t
       → ((x : Out) → ((u : Out) → Before u x → told ≡ None → has_word (dictionary_bytes items) u ≡ true) → Grown limits Q p.output x
       → Grown limits Q w.output x) → Inner limits Q w r (word_used limits told items p) (word_used limits told items t)
-  word_lays None items {w} {p} same f =
-      puts_same (f (with_word limits (dictionary_bytes items) WordUse.Other false p.output)
+  word_lays None items {w} {p} same f = puts_same (f (with_word limits (dictionary_bytes items) WordUse.Other false p.output)
       (λ u e none. word_stands limits u (dictionary_bytes items) WordUse.Other false p.output e)
       (Uses (dictionary_bytes items) WordUse.Other false)) (same.0, same.1, ap (word_used limits None items) same.2)
   word_lays (Some told) items {w} {p} same f = puts_same (f p.output (λ u e none. no_some none) Stays) same
@@ -444,8 +438,7 @@ takes_told (Some at) r w = refl
 
 word_told : (context : Context) (name : Option ℕ) (r : Reported) (w : Compilation)
     → word_text context (takes_words name (with_report r w)) (with_report r w) ≡ word_text context (takes_words name w) w
-word_told context name r w =
-    ap (λ takes. word_text context takes (with_report r w)) (takes_told name r w)
+word_told context name r w = ap (λ takes. word_text context takes (with_report r w)) (takes_told name r w)
     ∙ leaf_told context (word_leaf (takes_words name w) w) r w
 
 module _ {limits : Limits} {context : Context} {Q : Premises} where
@@ -537,6 +530,5 @@ module _ {limits : Limits} {context : Context} {Q : Premises} where
       (Next f (Puts Stays (λ u k. k) refl))))
 
   pub embedded_read_steps : (place : Place) (w : Compilation) → Walks limits context Q (embedded_read limits context place) w
-  embedded_read_steps place w r =
-      embedded_steps (first_place w.unit.tokens place) (place_before (bracket_in w.unit.tokens)) w.unit.headed w
+  embedded_read_steps place w r = embedded_steps (first_place w.unit.tokens place) (place_before (bracket_in w.unit.tokens)) w.unit.headed w
       (record w { unit = record w.unit { headed = no_locals } }) r (Puts Stays (λ u h. h) refl)

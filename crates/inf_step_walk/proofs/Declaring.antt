@@ -147,14 +147,12 @@ module _ {limits : Limits} {Q : Premises} where
   new_property_grows is_additive v o stands = go (property_fault o.tables.world)
     where
       go : (fault : Option WorldFault) → Grown limits Q o (new_property_by fault is_additive v o)
-      go None =
-          world_grows (with_property is_additive v o.tables.world) (λ u e. property_holds u is_additive v o.tables.world (stands u e))
+      go None = world_grows (with_property is_additive v o.tables.world) (λ u e. property_holds u is_additive v o.tables.world (stands u e))
       go (Some fault) = Stays
 
   property_grows : (context : Context) (told : Option Finding) (name : Name) (is_additive : Bool) (w : Compilation)
       → Grown limits Q w.output (property_added limits context told name is_additive w)
-  property_grows context (Some f) name is_additive w =
-      declares name.bytes name.place (nothing_of FixedLimit.Properties) (λ u. tt)
+  property_grows context (Some f) name is_additive w = declares name.bytes name.place (nothing_of FixedLimit.Properties) (λ u. tt)
   property_grows context None name is_additive w =
       let o = (settled_of limits context w).out in
       let m = Meaning.Property (property_number o) is_additive in
@@ -220,8 +218,7 @@ module _ {limits : Limits} {Q : Premises} where
   low_string_grows : (context : Context) (told : Option Finding) (name : Name) (w : Compilation)
       → Grown limits Q w.output (low_string_added limits context.set told name w.unit.tokens w.output)
   low_string_grows context (Some f) name w = declares name.bytes name.place (Meaning.Number 0) (λ u. tt)
-  low_string_grows context None name w =
-      low_by_grows name (or_error (text_of context.set Mode.Text (quoted_in w.unit.tokens))) w.output
+  low_string_grows context None name w = low_by_grows name (or_error (text_of context.set Mode.Text (quoted_in w.unit.tokens))) w.output
 
   -- Lemmas about arrays
 
@@ -229,12 +226,10 @@ module _ {limits : Limits} {Q : Premises} where
   opened_grows k name o = go (open_fault limits k o.tables.arrays)
     where
       go : (fault : Option ArrayFault) → Grown limits Q o (array_opened_by limits fault k name o)
-      go None =
-          Follows {p =
+      go None = Follows {p =
           with_arrays (opened k o.tables.arrays) o} (arrays_grow (opened k o.tables.arrays) (λ u b. opened_holds u k o.tables.arrays))
           (declares name.bytes name.place (Meaning.Array (arrays_size (all_of o.tables.arrays))) (λ u. tt))
-      go (Some f) =
-          Follows {p = passed_table limits Setting.Arrays o} (Passes Setting.Arrays)
+      go (Some f) = Follows {p = passed_table limits Setting.Arrays o} (Passes Setting.Arrays)
           (declares name.bytes name.place (Meaning.Array 0) (λ u. tt))
 
   listed_lays : (told : Option Finding) (k : ArrayKind) (name : Name) (w : Compilation) → Lies limits Q w (listed limits told k name) w
@@ -249,8 +244,7 @@ module _ {limits : Limits} {Q : Premises} where
 
   -- an entry of the story's array: what it adds stands once the output before it comes before
   more_lays : (a : Adding) (w : Compilation) → ((u : Out) → Before u w.output → AddingStands u a) → Lies limits Q w (added limits a) w
-  more_lays a w stands r =
-      inner_if w.listing.is_lost (Puts Stays (λ u h. h) refl)
+  more_lays a w stands r = inner_if w.listing.is_lost (Puts Stays (λ u h. h) refl)
       (puts _ (story_grows (added_fault limits a w.output.tables.arrays) a w.output stands) r)
 
   text_lays : (items : Option (List TextItem)) (w : Compilation) → Lies limits Q w (text_added limits items) w
@@ -353,8 +347,7 @@ module _ {limits : Limits} {context : Context} {Q : Premises} where
   property_named_steps : (first : Place) (is_additive : Bool) (names : List Name) (w : Compilation)
       → Walks limits context Q (property_named limits context first is_additive names) w
   property_named_steps first is_additive [] w r = passed_steps true w r
-  property_named_steps first is_additive (name ∷ names) w r =
-      steps_if (is_alias names w.unit.gathering.leaves)
+  property_named_steps first is_additive (name ∷ names) w r = steps_if (is_alias names w.unit.gathering.leaves)
       (alias_steps first name (property_order w.unit.tokens is_additive) FixedLimit.Properties w r)
       (property_with_steps first is_additive name w r)
 
@@ -383,8 +376,7 @@ module _ {limits : Limits} {context : Context} {Q : Premises} where
 
   pub abbreviation_steps : (place : Place) (w : Compilation) → Q Ending.Abbreviation
       → Walks limits context Q (abbreviation limits context place) w
-  abbreviation_steps place w q =
-      abbreviation_with_steps (first_place w.unit.tokens place)
+  abbreviation_steps place w q = abbreviation_with_steps (first_place w.unit.tokens place)
       (or_error (text_of context.set Mode.Abbreviation (quoted_in w.unit.tokens))) w q
 
   pub abbreviate_steps : (first : Place) (w : Compilation) → Walks limits context Q (abbreviate_header limits context first) w
@@ -430,8 +422,7 @@ module _ {limits : Limits} {context : Context} {Q : Premises} where
   pub switches_steps : (first : Place) (names : List Name) (w : Compilation) → Q Ending.Directive
       → Walks limits context Q (switches limits context first names) w
   switches_steps first [] w q r = passed_steps true w r
-  switches_steps first (name ∷ names) w q r =
-      steps_if (ignores w.letters) (unit_ends first true nothing_found w r)
+  switches_steps first (name ∷ names) w q r = steps_if (ignores w.letters) (unit_ends first true nothing_found w r)
       (switches_by_steps first (letters_behind (has_code w.output.code) name.bytes w.letters) w q r)
 
   -- Lemmas about arrays
@@ -450,8 +441,7 @@ module _ {limits : Limits} {context : Context} {Q : Premises} where
       Ends first false nothing_found (entry_added limits context alone w) (entry_lays context (bare_text alone w) alone w r)
   entry_with_steps first alone (Some f) w r = unit_ends first false (found_alone (Some f)) w r
 
-  pub entry_steps : (place : Place) (is_last : Bool) (w : Compilation)
-      → Walks limits context Q (entry_ended limits context place is_last) w
+  pub entry_steps : (place : Place) (is_last : Bool) (w : Compilation) → Walks limits context Q (entry_ended limits context place is_last) w
   entry_steps place is_last w r =
       let alone = is_alone is_last w in
       let first = first_place w.unit.tokens place in

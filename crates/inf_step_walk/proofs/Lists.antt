@@ -136,8 +136,7 @@ fixups_stand : (u : Out) (long : Places) (old new : ℕ) (cells : List Cell) →
     → FixupsStand u (closed_fixups long old new cells)
 fixups_stand u long old new [] h = tt
 fixups_stand u long old new (Plain byte ∷ cells) h = fixups_stand u long (old + 1) (new + 1) cells h.1
-fixups_stand u long old new (Of what ∷ cells) h =
-    all_join (λ (f : Fixup). TargetStands u f.target)
+fixups_stand u long old new (Of what ∷ cells) h = all_join (λ (f : Fixup). TargetStands u f.target)
     (fixup_at new what) (closed_fixups long (old + special_size what) (new + size_at long old what) cells)
     (fixup_stands u new what h.0) (fixups_stand u long (old + special_size what) (new + size_at long old what) cells h.1)
 
@@ -157,8 +156,7 @@ from_stand u place (fixup ∷ fixups) bytes h =
 with_stand : (u : Out) (place : ℕ) (kind : RoutineKind) (contents : Contents) (body : Option (List ℕ)) → OpenCellsStand u contents.cells
     → CellsStand u (cells_with place kind contents body)
 with_stand u place kind contents None h = tt
-with_stand u place kind contents (Some body) h =
-    from_stand u place (routine_fixups place contents) (whole_bytes kind contents body)
+with_stand u place kind contents (Some body) h = from_stand u place (routine_fixups place contents) (whole_bytes kind contents body)
     (fixups_stand u (long_places place contents) (place + 1) (place + 1) contents.cells h)
 
 pub closed_stand : (u : Out) (scale : Scale) (kind : RoutineKind) (place : ℕ) (opened : Option Opened) → RoutineStands u opened
@@ -186,8 +184,7 @@ no_some e = absurd (cc e)
 -- the number of a name that is used, among the names of an output that it comes before
 used_within : (u : Out) (name : List ℕ) (place : Place) (t : Table Place) → length (with_used name place t).names ≤ length u.names.names
     → IsWithin (number_of name t) (length u.names.names)
-used_within u name place t few =
-    within_more (number_of name t) (length (with_used name place t).names) (length u.names.names)
+used_within u name place t few = within_more (number_of name t) (length (with_used name place t).names) (length u.names.names)
     (number_within name place t (system_meaning t.is_debugging name) (standing_of (folded name) t.names) refl) few
 
 -- a routine by its number among the names, where it is used
@@ -317,8 +314,7 @@ lacked_stand u own (p ∷ above) h = go (has p.number own) (lacked_stand u own a
 
 inherited_stand : (u : Out) (own above : List Property) → PropertiesStand u own → PropertiesStand u above
     → PropertiesStand u (inherited own above)
-inherited_stand u own above h k =
-    all_join (λ (p : Property). ValuesStand u p.values)
+inherited_stand u own above h k = all_join (λ (p : Property). ValuesStand u p.values)
     (with_joined above own) (lacked own above) (joined_stand u above own k h) (lacked_stand u own above k)
 
 last_stand : (u : Out) (v : Value) (own : List Property) → ValueStands u v → PropertiesStand u own

@@ -70,8 +70,7 @@ module _ {limits : Limits} {Q : Premises} where
     where
       go : (first : Option Place) → Grown limits Q o (faked_by limits first (key_of name) place o).0
       go (Some first) = Stays
-      go None =
-          Follows {p = one_fake o} (other refl (λ u h. h)) (declares (key_of name) place (Meaning.FakeAction (next_fake o)) (λ u. tt))
+      go None = Follows {p = one_fake o} (other refl (λ u h. h)) (declares (key_of name) place (Meaning.FakeAction (next_fake o)) (λ u. tt))
 
   pub added_grows : (set : CharSet) (tokens : List SourceToken) (leaves : List Leaf) (o : Out)
       → Grown limits Q o (leaf_added limits set tokens leaves o)

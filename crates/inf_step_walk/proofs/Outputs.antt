@@ -75,8 +75,7 @@ short_past limits (Some p) code = refl
 -- a room with the limits of names and of tables as they were
 same_short : (limits : Limits) (past : Option Past) (code : Routines) (q : Past) → q.symbols ≡ (past_by limits past code).symbols
     → q.tables ≡ (past_by limits past code).tables → is_short_by (Some q) ≡ is_short_by past
-same_short limits past code q symbols tables =
-    ap (λ (b : Bool). b || is_some q.tables) symbols
+same_short limits past code q symbols tables = ap (λ (b : Bool). b || is_some q.tables) symbols
     ∙ (ap (λ (t : Option Setting). (past_by limits past code).symbols || is_some t) tables ∙ short_past limits past code)
 
 before_past : (limits : Limits) (u o : Out) (code : Routines) (q : Past) → q.symbols ≡ (past_by limits o.past code).symbols
@@ -185,8 +184,7 @@ items_keep limits u P (item ∷ items) s o =
 pub instruction_keeps : (limits : Limits) (u : Out) (P : Type 0) (opcode : Opcode) (operands : List Simple) (store : Option ℕ)
     (branch : Option Branch) → SimplesStand u P operands → KeepsIf u P (instruction limits opcode operands store branch)
 unfolding instruction
-instruction_keeps limits u P opcode operands store branch s =
-    item_keeps limits u P
+instruction_keeps limits u P opcode operands store branch s = item_keeps limits u P
     (Item.Instruction (record { opcode = opcode; operands = map written operands; store = store; branch = branch; text = [] }))
     (λ p. all_written u P operands p s)
 
@@ -194,21 +192,19 @@ instruction_keeps limits u P opcode operands store branch s =
 pub instruction_before : (limits : Limits) (u : Out) (opcode : Opcode) (operands : List Simple) (store : Option ℕ) (branch : Option Branch)
     (o : Out) → Before u (instruction limits opcode operands store branch o) → Before u o
 unfolding instruction
-instruction_before limits u opcode operands store branch o =
-    (item_goes limits u
+instruction_before limits u opcode operands store branch o = (item_goes limits u
     (Item.Instruction (record { opcode = opcode; operands = map written operands; store = store; branch = branch; text = [] })) o).0
 
 pub naming_keeps : (limits : Limits) (u : Out) (P : Type 0) (opcode : Opcode) (variable : ℕ) (operands : List Simple) (store : Option ℕ)
     (branch : Option Branch) → SimplesStand u P operands → KeepsIf u P (naming limits opcode variable operands store branch)
 unfolding naming
-naming_keeps limits u P opcode variable operands store branch s =
-    item_keeps limits u P (Item.Instruction (record {
-      opcode = opcode;
-      operands = Operand.Small variable ∷ map written operands;
-      store = store;
-      branch = branch;
-      text = [];
-    })) (λ p. (tt, all_written u P operands p s))
+naming_keeps limits u P opcode variable operands store branch s = item_keeps limits u P (Item.Instruction (record {
+  opcode = opcode;
+  operands = Operand.Small variable ∷ map written operands;
+  store = store;
+  branch = branch;
+  text = [];
+})) (λ p. (tt, all_written u P operands p s))
 
 pub mark_keeps : (limits : Limits) (u : Out) (P : Type 0) (label : Label) → KeepsIf u P (marked limits label)
 unfolding marked
@@ -216,8 +212,7 @@ mark_keeps limits u P label = item_keeps limits u P (Item.Mark label) (λ p. tt)
 
 pub jump_keeps : (limits : Limits) (u : Out) (P : Type 0) (label : Label) → KeepsIf u P (jumped limits label)
 unfolding jumped
-jump_keeps limits u P label =
-    item_keeps limits u P
+jump_keeps limits u P label = item_keeps limits u P
     (Item.Instruction (record { opcode = Opcode.Jump; operands = Operand.Offset label ∷ []; store = None; branch = None; text = [] }))
     (λ p. (tt, tt))
 
@@ -237,10 +232,7 @@ pub open_keeps : (limits : Limits) (u : Out) (locals : ℕ) (is_lost : Bool) →
 open_keeps limits u locals is_lost o = go (full_opened limits is_lost o.code)
   where
     go : (full : Option CodeLimit) → Goes u o (opened_by limits full locals is_lost o)
-    go None = (
-      (λ e. e),
-      (λ e h. (record { of_finished = h.0.of_finished; of_opened = tt; of_kept = h.0.of_kept }, h.1)),
-    )
+    go None = ((λ e. e), (λ e h. (record { of_finished = h.0.of_finished; of_opened = tt; of_kept = h.0.of_kept }, h.1)))
     go (Some limit) = (
       limit_before limits u o (with_none_open o.code) limit,
       (λ e h. (record { of_finished = h.0.of_finished; of_opened = tt; of_kept = h.0.of_kept }, h.1)),
@@ -248,8 +240,7 @@ open_keeps limits u locals is_lost o = go (full_opened limits is_lost o.code)
 
 -- the open routine is given up
 pub none_open_keeps : (u : Out) → Keeps u (λ o. record o { code = with_none_open o.code })
-none_open_keeps u o =
-    ((λ e. e), (λ e h. (record { of_finished = h.0.of_finished; of_opened = tt; of_kept = h.0.of_kept }, h.1)))
+none_open_keeps u o = ((λ e. e), (λ e h. (record { of_finished = h.0.of_finished; of_opened = tt; of_kept = h.0.of_kept }, h.1)))
 
 by_closed : (limits : Limits) (u : Out) (kind : RoutineKind) (o : Out) (fault : Option CloseFault)
     → Goes u o (closed_by limits fault kind o)
@@ -342,8 +333,7 @@ used_before : (limits : Limits) (u : Out) (text : Text) (how : WordUse) (is_plur
 used_before limits u text how is_plural o complete e = record {
   complete = complete;
   few_names = names e.few_names;
-  has_words = λ other has.
-      e.has_words other (word_there other (with_word limits text how is_plural o)
+  has_words = λ other has. e.has_words other (word_there other (with_word limits text how is_plural o)
       (((steps_keep_words limits).word text how is_plural).keeps other o (ap (λ (b : Bool). b || is_limited o) has)) e.complete);
 }
   where
@@ -403,10 +393,7 @@ declare_goes limits u name place m o = go (declare_fault limits name o.names) re
             has_words = e.has_words;
           }
           ),
-      (
-          λ s e h.
-          (h.0, (h.1.0, (h.1.1.0, names_put u (folded name) (IsDeclared o.names.declared m place) o.names.names (s is) h.1.1.1)))
-          ),
+      (λ s e h. (h.0, (h.1.0, (h.1.1.0, names_put u (folded name) (IsDeclared o.names.declared m place) o.names.names (s is) h.1.1.1)))),
     )
     go (Some DeclareFault.Full) is = ((λ e. never e.complete), (λ s e h. never e.complete))
     go (Some (DeclareFault.Present first)) is = ((λ e. e), (λ s e h. h))

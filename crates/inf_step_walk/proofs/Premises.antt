@@ -72,8 +72,7 @@ module _ (L : Target → Type 0) where
   number_stands (Some n) t h = tt
   number_stands None t h = h
 
-  built_stands : (op : Binary) (f : Option Function) (a b : Tree) → TreeMeets L a → TreeMeets L b
-      → TreeMeets L (built op f a b)
+  built_stands : (op : Binary) (f : Option Function) (a b : Tree) → TreeMeets L a → TreeMeets L b → TreeMeets L (built op f a b)
   built_stands Binary.Call (Some f) a b h k = k
   built_stands Binary.Call None a b h k = (h, k)
   built_stands op f a b h k = (h, k)
@@ -87,13 +86,11 @@ module _ (L : Target → Type 0) where
     h.1.1,
   )
 
-  unary_stands : (op : Unary) (front : Option ℕ) (trees : List Rooted) → RootsMeet L trees
-      → RootsMeet L (with_unary op front trees)
+  unary_stands : (op : Unary) (front : Option ℕ) (trees : List Rooted) → RootsMeet L trees → RootsMeet L (with_unary op front trees)
   unary_stands op front [] h = tt
   unary_stands op front (a ∷ trees) h = (number_stands (folded_single op (known a.tree)) (One op a.tree) h.0, h.1)
 
-  bracketed_stands : (order : ℕ) (trees : List Rooted) → RootsMeet L trees
-      → RootsMeet L (bracketed_latest order trees)
+  bracketed_stands : (order : ℕ) (trees : List Rooted) → RootsMeet L trees → RootsMeet L (bracketed_latest order trees)
   bracketed_stands order [] h = tt
   bracketed_stands order (a ∷ trees) h = h
 
@@ -113,13 +110,11 @@ module _ (L : Target → Type 0) where
       go true = unary_stands Unary.Call None g.trees h
       go false = two_stand Binary.Call all.trees (listed_stands unit (given - 1) g h)
 
-  parted_stands : (w : Wanted) (unit : ℕ) (g : Gathered) → RootsMeet L g.trees
-      → RootsMeet L (parted w unit g).trees
+  parted_stands : (w : Wanted) (unit : ℕ) (g : Gathered) → RootsMeet L g.trees → RootsMeet L (parted w unit g).trees
   parted_stands Wanted.Case unit g h = h
   parted_stands wanted unit g h = two_stand Binary.Comma g.trees h
 
-  at_stands : (operands : List Operand) (leaf : ℕ) → OperandsMeet L operands
-      → LeafMeets L (operand_at operands leaf)
+  at_stands : (operands : List Operand) (leaf : ℕ) → OperandsMeet L operands → LeafMeets L (operand_at operands leaf)
   at_stands [] leaf h = tt
   at_stands (x ∷ operands) zero h = h.0
   at_stands (x ∷ operands) (suc leaf) h = at_stands operands leaf h.1
@@ -145,12 +140,10 @@ module _ (L : Target → Type 0) where
 
   reversed_stand : (trees : List Rooted) → RootsMeet L trees → RootsMeet L (reverse trees)
   reversed_stand [] h = tt
-  reversed_stand (r ∷ trees) h =
-      subst (λ (all : List Rooted). RootsMeet L all) (sym (reverse-append (r ∷ []) trees))
+  reversed_stand (r ∷ trees) h = subst (λ (all : List Rooted). RootsMeet L all) (sym (reverse-append (r ∷ []) trees))
       (all_join (λ (r : Rooted). TreeMeets L r.tree) (reverse trees) (r ∷ []) (reversed_stand trees h.1) (h.0, tt))
 
   pub roots_stand : (w : Wanted) (unit : ℕ) (operands : List Operand) (symbols : List Symbol)
       → OperandsMeet L operands → RootsMeet L (trees_of w unit operands symbols)
-  roots_stand w unit operands symbols all =
-      reversed_stand (gathered w unit operands symbols nothing_gathered).trees
+  roots_stand w unit operands symbols all = reversed_stand (gathered w unit operands symbols nothing_gathered).trees
       (gathered_stand w unit operands symbols nothing_gathered all tt)

@@ -149,8 +149,7 @@ module _ {limits : Limits} {Q : Premises} where
 
   -- the output where the names of a unit are used, and its operands and trees there
   pub used_grows : (context : Context) (w : Compilation) → Grown limits Q w.output (settled_of limits context w).out
-  used_grows context w =
-      settled_grows context.set w.locals w.unit.tokens w.unit.gathering.leaves (record { out = w.output; operands = [] })
+  used_grows context w = settled_grows context.set w.locals w.unit.tokens w.unit.gathering.leaves (record { out = w.output; operands = [] })
 
 pub used_stood : (limits : Limits) (context : Context) (w : Compilation)
     → OperandsMeet (Stood (settled_of limits context w).out) (settled_of limits context w).operands
@@ -198,8 +197,7 @@ module _ {limits : Limits} {context : Context} {Q : Premises} where
   finished_steps : (place : Place) (p : Part) (x w : Compilation) (r : Reported) → Inner limits Q x r w (with_report r w)
       → Walk limits context Q x r (part_finished limits context (place_of p place w) p w)
       (part_finished limits context (place_of p place (with_report r w)) p (with_report r w))
-  finished_steps place p x w r ahead =
-      like (finished_told limits context place p r w)
+  finished_steps place p x w r ahead = like (finished_told limits context place p r w)
       (carried_lays (place_of p place w) p (found_in limits context p w) x (named (part_begun limits p w)) r
       (Next ahead (Next (alike (begun_lays p w r)) (naming_lays (part_begun limits p w) r))))
 
@@ -215,24 +213,21 @@ module _ {limits : Limits} {context : Context} {Q : Premises} where
   pub opened_steps : (first : Place) (h : Headed) (told : Findings) (x w : Compilation) (r : Reported)
       → Inner limits Q x r w (with_report r w)
       → Walk limits context Q x r (opened_with limits context first h told w) (opened_with limits context first h told (with_report r w))
-  opened_steps first h told x w r ahead =
-      Ends first true told (record w {
-        output = opened limits (length h.locals) (is_some told.least) w.output;
-        locals = h.locals;
-        constructs = [];
-        labels = [];
-      }) (Next ahead (Puts (Opens (length h.locals) (is_some told.least)) (λ u k. tt) refl))
+  opened_steps first h told x w r ahead = Ends first true told (record w {
+    output = opened limits (length h.locals) (is_some told.least) w.output;
+    locals = h.locals;
+    constructs = [];
+    labels = [];
+  }) (Next ahead (Puts (Opens (length h.locals) (is_some told.least)) (λ u k. tt) refl))
 
-  header_with_steps : (first : Place) (name : Name) (h : Headed) (x w : Compilation) (r : Reported)
-      → Inner limits Q x r w (with_report r w)
+  header_with_steps : (first : Place) (name : Name) (h : Headed) (x w : Compilation) (r : Reported) → Inner limits Q x r w (with_report r w)
       → Walk limits context Q x r (header_with limits context first name h w) (header_with limits context first name h (with_report r w))
   header_with_steps first name h x w r ahead =
       opened_steps first h (header_findings 1 (again_by name (declare_fault limits name.bytes w.output.names)) h) x
       (routine_declared limits name w) r (Next ahead (routine_lays name w r))
 
   named_steps : (first : Place) (name : Name) (w : Compilation) → Walks limits context Q (header_named limits context first name) w
-  named_steps first name w r =
-      steps_if (is_to_be_replaced name w) (Rests (λ u h. tt) refl)
+  named_steps first name w r = steps_if (is_to_be_replaced name w) (Rests (λ u h. tt) refl)
       (header_with_steps first name w.unit.headed w (record w { is_replaced = false; is_embedded = false }) r (Puts Stays (λ u h. h) refl))
 
   header_of_steps : (first : Place) (names : List Name) (w : Compilation) → Walks limits context Q (header_of limits context first names) w
@@ -251,13 +246,10 @@ module _ {limits : Limits} {context : Context} {Q : Premises} where
 
   pub replace_steps : (first : Place) (names : List Name) (w : Compilation) → Walks limits context Q (replace limits context first names) w
   replace_steps first [] w r = passed_steps true w r
-  replace_steps first (name ∷ names) w r =
-      Ends first true nothing_found (record w {
-        output =
-            referred limits name.bytes name.place w.output;
-        replaced = with_name name.bytes w.replaced;
-      })
-      (Puts (Refers name.bytes name.place) (λ u h. h) refl)
+  replace_steps first (name ∷ names) w r = Ends first true nothing_found (record w {
+    output = referred limits name.bytes name.place w.output;
+    replaced = with_name name.bytes w.replaced;
+  }) (Puts (Refers name.bytes name.place) (λ u h. h) refl)
 
   stubbed_steps : (first : Place) (x w : Compilation) (r : Reported) → Inner limits Q x r w (with_report r w)
       → Walk limits context Q x r (stubbed limits context first w) (stubbed limits context first (with_report r w))
@@ -297,8 +289,7 @@ leaf_meaning_stands limits u context w (Leaf.Word word ∷ leaves) o h e =
     let v = with_word limits word.text WordUse.Other word.is_plural o in
     word_stands limits u word.text WordUse.Other word.is_plural o
     (before {limits = limits} {Q = free} (added_grows context.set w.unit.tokens leaves v) u e)
-leaf_meaning_stands limits u context w leaves o h e =
-    declared_stands u (found_in_names (named_leaf w.unit.tokens leaves) w.output.names)
+leaf_meaning_stands limits u context w leaves o h e = declared_stands u (found_in_names (named_leaf w.unit.tokens leaves) w.output.names)
     (found_meaning u (named_leaf w.unit.tokens leaves) w.output.names h)
 
 constant_of_stands : (limits : Limits) (u : Out) (context : Context) (w : Compilation) (trees : List Tree) (o : Out)

@@ -26,8 +26,7 @@ pub is_too_long : (fields : HeaderFields) (main : ℕ) (finished : List Cell) (s
     → contents ≡ cells_contents (areas main finished strings tables)
     → too_long_by (lengths contents) fields.scale ≡ too_long fields main finished strings tables
 unfolding too_long
-is_too_long fields main finished strings tables contents are_contents =
-    ap (λ bytes. too_long_by (lengths bytes) fields.scale) are_contents
+is_too_long fields main finished strings tables contents are_contents = ap (λ bytes. too_long_by (lengths bytes) fields.scale) are_contents
     ∙ ap (λ sizes. too_long_by sizes fields.scale) (sizes-cells (areas main finished strings tables))
 
 pub is_sized : (fields : HeaderFields) (main : ℕ) (finished : List Cell) (strings : List ℕ) (tables : AllTables)

@@ -39,6 +39,5 @@ words_length = refl
 pub keyword_is : (is_class : Bool) (spelling : List ℕ) →
     keyword_at (first_word + (if is_class then names else 0) + place_in spelling words) ≡ keyword_of spelling
 unfolding keyword_at keyword_of
-keyword_is is_class spelling =
-    ap (λ n. slice_get keywords n)
+keyword_is is_class spelling = ap (λ n. slice_get keywords n)
     (name_is is_class (place_in spelling words) (omega (arith, place_within spelling words, words_length)))

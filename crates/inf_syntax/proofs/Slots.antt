@@ -111,9 +111,6 @@ absent s (w ∷ ws) d a o = by_slot (nat_eq (slot w) (slot s)) refl o (λ m. abs
 distinct : are_distinct word_slots ≡ true
 distinct = refl
 
-words_length : length words ≡ 72
-words_length = refl
-
 slot_place : (n : ℕ) → n < 256 → get_or all_slots n 72 ≡ place_of n word_slots
 unfolding all_slots
 slot_place n l = get_or-map-range_with_len (λ n. place_of n word_slots) 0 256 n n 72 l (omega arith)
@@ -129,10 +126,7 @@ same_or (x ∷ xs) (suc at) d e l = same_or xs at d e (omega arith)
 -- a word that is referred to
 pub word_at : {X : Type 0} (f : X → List ℕ) (xs : List X) (place : ℕ) (w : X) → map f xs ≡ words → place < length xs →
     w ≡ get_or xs place w → f w ≡ get_or words place []
-word_at f xs place w e l at =
-    ap f at
-    ∙ sym (get_or-map f xs place w)
-    ∙ ap (λ ws. get_or ws place (f w)) e
+word_at f xs place w e l at = ap f at ∙ sym (get_or-map f xs place w) ∙ ap (λ ws. get_or ws place (f w)) e
     ∙ same_or words place (f w) [] (omega (arith, l, sym (length-map xs f) ∙ ap length e))
 
 -- the place of a name among the words, by a look at the word at `place`

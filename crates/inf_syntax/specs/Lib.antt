@@ -1,11 +1,7 @@
 pub mod At
 pub mod Atoms
 pub mod Classes
-pub mod Parts
 pub mod Rows
 pub mod Slots
-pub mod Table1
-pub mod Table2
-pub mod Table3
-pub mod Table4
+pub mod Table
 pub mod Words

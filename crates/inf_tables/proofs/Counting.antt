@@ -84,8 +84,7 @@ ends limits w latest new bytes fixups h e later =
       bytes_are = omega (arith, h.bytes_are, sum);
       fixups_are = omega (arith, h.fixups_are, sums);
       few_fixups = omega (arith, h.few_fixups, object_few o);
-      latest_are =
-          λ arrows. later arrows ∙ ap (or_latest (told arrows (5 + length w.objects) o)) (h.latest_are arrows)
+      latest_are = λ arrows. later arrows ∙ ap (or_latest (told arrows (5 + length w.objects) o)) (h.latest_are arrows)
           ∙ sym (latest-push arrows w.objects o);
       arrows_within = omega arith;
       parents_within = parents-push (4 + length (w.objects ++ o ∷ [])) w.objects o

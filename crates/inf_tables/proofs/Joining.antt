@@ -1,26 +1,20 @@
 -- Areas of joined lists of objects.
 use Rattle.std.proofs.Common.{◌≡◌, ◌≤◌, ◌+◌, ◌-◌, ◌%◌, ◌∷◌, ◌++◌, [], ℕ, zero, suc, List, Bool, length, drop, map, replicate, append_assoc}
+use Rattle.std.proofs.{Common.append-nil, Math.ListN.drop_of_length-le}
 use Rattle.std.proofs.Common.{refl, sym, ap, subst, ◌∙◌, arith}
 use Rattle.inf_area.specs.declared.{cells.Cell.Cell, targets.AreaName.AreaName, targets.Target.Target, targets.Value.Value}
-use Rattle.inf_area.specs.Cells.{bytes_of, later_count, value_cells, values_cells, word_cells}
+use Rattle.inf_area.specs.Cells.{bytes_of, later_count, values_cells, word_cells}
 use Rattle.inf_properties.specs.Sizes.{later_count as values_later}
+use Rattle.inf_properties.proofs.Sums.{later_count-append as values_later-append}
 use Rattle.inf_objects.specs.{Attributes.attribute_cells, Attributes.no_attributes, declared.objects.Object.Object, declared.tree.Link.Link}
 use Rattle.inf_objects.specs.Tables.{all_falling, class_values, table_cells}
 use Rattle.inf_objects.specs.Tree.{AreWithin, child_of, each_from, link_at, link_of, links_of, sibling_of}
-use Rattle.inf_objects.proofs.{Walking.link_is, Written.later_joined, Written.size_joined, Written.values_laters}
+use Rattle.inf_objects.proofs.{Walking.link_is, Written.known_classes, Written.values_laters}
+use Rattle.inf_area.proofs.Joining.{later_count-append, size-append, values_cells-append}
 use Rattle.inf_tables.specs.{World.AreHung, World.later_defaults, World.later_in, declared.kinds.DeclaredProperty.DeclaredProperty}
 use Rattle.inf_tables.specs.Areas.{all_defaults, all_objects, bare_cells, class_numbers_from, entries_by, entry_cells, first_names}
 use Rattle.inf_tables.specs.Areas.{first_objects, individual_places_from, individual_tables, object_by, object_cells, objects_from}
 use Rattle.inf_tables.specs.Areas.{parents_of, shown_attributes, table_places_from, tables_from}
-
-pub values-append : (xs ys : List Value) → values_cells (xs ++ ys) ≡ values_cells xs ++ values_cells ys
-values-append [] ys = refl
-values-append (x ∷ xs) ys =
-    ap (λ cs. value_cells x ++ cs) (values-append xs ys) ∙ sym (append_assoc (value_cells x) (values_cells xs) (values_cells ys))
-
-pub class_values-append : (xs ys : List ℕ) → class_values (xs ++ ys) ≡ class_values xs ++ class_values ys
-class_values-append [] ys = refl
-class_values-append (x ∷ xs) ys = ap (λ vs. Value.Known (x % 65536) ∷ vs) (class_values-append xs ys)
 
 pub tables-append : (part : ℕ) (xs ys : List Object) →
     tables_from part (xs ++ ys) ≡ tables_from part xs ++ tables_from (part + length xs) ys
@@ -140,11 +134,7 @@ hung_links objects parents h is =
         omega arith,
         (
           omega arith,
-          (
-            omega arith,
-            subst (λ n. AreWithin n (parents_of objects)) (sym count)
-                (hung_within (4 + length objects) objects h),
-          ),
+          (omega arith, subst (λ n. AreWithin n (parents_of objects)) (sym count) (hung_within (4 + length objects) objects h)),
         ),
       ),
     )
@@ -172,20 +162,10 @@ all_written objects parents links cells is made written =
     ∙ entries_are all 0 (all_objects objects) (omega (arith, length-parents (all_objects objects)))
 
 -- behind the last object there are no more tables
-nothing_left : (i : ℕ) (objects : List Object) → length objects ≤ i → drop i objects ≡ []
-nothing_left zero [] h = refl
-nothing_left (suc i) [] h = refl
-nothing_left zero (o ∷ objects) h = absurd (omega (arith, h))
-nothing_left (suc i) (o ∷ objects) h = nothing_left i objects (omega (arith, h))
-
-and_nothing : (cells : List Cell) → cells ++ [] ≡ cells
-and_nothing [] = refl
-and_nothing (x ∷ cells) = ap (λ l. x ∷ l) (and_nothing cells)
-
 pub individual_end : (cells : List Cell) (objects : List Object) (i : ℕ) → length objects ≤ i
     → cells ++ individual_tables (drop i objects) ≡ individual_tables objects → cells ≡ individual_tables (all_objects objects)
 individual_end cells objects i h is =
-    sym (and_nothing cells) ∙ ap (λ os. cells ++ individual_tables os) (sym (nothing_left i objects h)) ∙ is ∙ sym (all_individual objects)
+    sym (append-nil cells) ∙ ap (λ os. cells ++ individual_tables os) (sym (drop_of_length-le objects h)) ∙ is ∙ sym (all_individual objects)
 
 -- the defaults
 pub defaults_joined : (ds : List DeclaredProperty) →
@@ -195,7 +175,7 @@ defaults_joined ds =
     let own = map (λ (d : DeclaredProperty). d.default) ds in
     let front = replicate 3 (Value.Known 0) in
     let rest = replicate (60 - length ds) (Value.Known 0) in
-    ap (λ cs. cs ++ values_cells rest) (sym (values-append front own)) ∙ sym (values-append (front ++ own) rest)
+    ap (λ cs. cs ++ values_cells rest) (sym (values_cells-append front own)) ∙ sym (values_cells-append (front ++ own) rest)
 
 -- numbers that are known later
 attributes_known : (attributes : List Bool) → later_count (attribute_cells attributes) ≡ 0
@@ -207,40 +187,30 @@ entry_later attributes parent sibling child part =
     let address = Cell.Later (Target.Part AreaName.PropertyTables part) ∷ [] in
     omega (
       arith,
-      later_joined (attribute_cells attributes ++ word_cells (parent % 65536) ++ word_cells (sibling % 65536) ++ word_cells (child % 65536))
+      later_count-append (attribute_cells attributes ++ word_cells (parent % 65536) ++ word_cells (sibling % 65536) ++ word_cells (child % 65536))
           address,
-      later_joined (attribute_cells attributes ++ word_cells (parent % 65536) ++ word_cells (sibling % 65536)) (word_cells (child % 65536)),
-      later_joined (attribute_cells attributes ++ word_cells (parent % 65536)) (word_cells (sibling % 65536)),
-      later_joined (attribute_cells attributes) (word_cells (parent % 65536)),
+      later_count-append (attribute_cells attributes ++ word_cells (parent % 65536) ++ word_cells (sibling % 65536)) (word_cells (child % 65536)),
+      later_count-append (attribute_cells attributes ++ word_cells (parent % 65536)) (word_cells (sibling % 65536)),
+      later_count-append (attribute_cells attributes) (word_cells (parent % 65536)),
       attributes_known attributes,
     )
 
 pub objects_later : (parents : List ℕ) (part : ℕ) (objects : List Object) → later_count (objects_from parents part objects) ≡ length objects
 objects_later parents part [] = refl
-objects_later parents part (o ∷ objects) =
-    omega (
-      arith,
-      later_joined (object_cells parents part o) (objects_from parents (part + 1) objects),
-      entry_later (shown_attributes o.owner o.attributes) o.parent (sibling_of (part + 1) parents) (child_of (part + 1) parents) part,
-      objects_later parents (part + 1) objects,
-    )
+objects_later parents part (o ∷ objects) = omega (
+  arith,
+  later_count-append (object_cells parents part o) (objects_from parents (part + 1) objects),
+  entry_later (shown_attributes o.owner o.attributes) o.parent (sibling_of (part + 1) parents) (child_of (part + 1) parents) part,
+  objects_later parents (part + 1) objects,
+)
 
 pub tables_later : (objects : List Object) → later_count (tables_from 0 (all_objects objects)) ≡ later_count (tables_from 4 objects)
 tables_later objects =
-    ap later_count (all_tables objects) ∙ omega (arith, later_joined (tables_from 0 first_objects) (tables_from 4 objects), first_later)
-
-classes_known : (ns : List ℕ) → values_later (class_values ns) ≡ 0
-classes_known [] = refl
-classes_known (n ∷ ns) = classes_known ns
+    ap later_count (all_tables objects) ∙ omega (arith, later_count-append (tables_from 0 first_objects) (tables_from 4 objects), first_later)
 
 pub classes_later : (ns : List ℕ) → later_count (values_cells (class_values ns) ++ word_cells 0) ≡ 0
 classes_later ns =
-    later_joined (values_cells (class_values ns)) (word_cells 0) ∙ omega (arith, values_laters (class_values ns), classes_known ns)
-
-laters-append : (xs ys : List Value) → values_later (xs ++ ys) ≡ values_later xs + values_later ys
-laters-append [] ys = omega arith
-laters-append (Value.Known n ∷ xs) ys = laters-append xs ys
-laters-append (Value.Later t ∷ xs) ys = omega (arith, laters-append xs ys)
+    later_count-append (values_cells (class_values ns)) (word_cells 0) ∙ omega (arith, values_laters (class_values ns), known_classes ns)
 
 zeros_known : (n : ℕ) → values_later (replicate n (Value.Known 0)) ≡ 0
 zeros_known zero = refl
@@ -263,19 +233,17 @@ all_defaults_later ds =
     values_laters (all_defaults ds)
     ∙ omega (
       arith,
-      laters-append (front ++ own) rest,
-      laters-append front own,
+      values_later-append (front ++ own) rest,
+      values_later-append front own,
       zeros_known 3,
       zeros_known (60 - length ds),
-      defaults_later
-          ds,
+      defaults_later ds,
     )
 
 -- of all objects
 pub all_objects_later : (parents : List ℕ) (objects : List Object) →
     later_count (objects_from parents 0 (all_objects objects)) ≡ 4 + length objects
-all_objects_later parents objects =
-    objects_later parents 0 (all_objects objects)
+all_objects_later parents objects = objects_later parents 0 (all_objects objects)
     ∙ omega (arith, ap length (first_parents objects), length-parents (all_objects objects), length-parents objects)
 
 pub all_classes_later : (objects : List Object) →
@@ -284,6 +252,5 @@ all_classes_later objects = classes_later (class_numbers_from 1 (all_objects obj
 
 pub all_bytes : (objects : List Object) →
     length (bytes_of (tables_from 0 (all_objects objects))) ≡ 30 + length (bytes_of (tables_from 4 objects))
-all_bytes objects =
-    ap (λ cs. length (bytes_of cs)) (all_tables objects)
-    ∙ omega (arith, size_joined (tables_from 0 first_objects) (tables_from 4 objects), first_bytes)
+all_bytes objects = ap (λ cs. length (bytes_of cs)) (all_tables objects)
+    ∙ omega (arith, size-append (tables_from 0 first_objects) (tables_from 4 objects), first_bytes)

@@ -1,7 +1,6 @@
 -- The latest object that has a number of arrows.
-use Rattle.std.proofs.Common.{◌≡◌, ◌≤◌, ◌<◌, ◌+◌, ◌∷◌, ◌++◌, [], ℕ, zero, suc, List, Bool, true, false, Option, Some, None, length, refl}
-use Rattle.std.proofs.Common.{sym, ap, subst, ◌∙◌, arith, is_some, slice_get, if◌then◌else◌}
-use Rattle.std.proofs.lemmas.Option.{slice_get_within}
+use Rattle.std.proofs.Common.{◌≡◌, ◌≤◌, ◌<◌, ◌+◌, ◌∷◌, ◌++◌, [], ℕ, suc, List, Bool, true, false, Option, Some, None, length, refl}
+use Rattle.std.proofs.Common.{sym, ap, subst, ◌∙◌, arith, is_some, if◌then◌else◌}
 use Rattle.inf_objects.specs.declared.objects.Object.{Object}
 use Rattle.inf_tables.specs.Objects.{IsReached, has_arrows, latest_from, latest_with, or_latest, parent_above, parent_by_arrows}
 
@@ -56,13 +55,3 @@ above_is arrows k objects e = let there : arrows ≡ suc k = omega (arith, e) in
 pub reached_is : (arrows k n : ℕ) (objects : List Object) → arrows ≡ k + 1 → latest_with k objects ≡ Some n → IsReached arrows objects
 reached_is arrows k n objects e is =
     let there : arrows ≡ suc k = omega (arith, e) in subst (λ m. IsReached m objects) (sym there) (ap is_some is)
-
--- an object that can hang somewhere has at most one arrow more than there were ever before
-pub reached-within : (arrows : ℕ) (latest : List ℕ) (objects : List Object) → ((k : ℕ) → slice_get latest k ≡ latest_with k objects) →
-    IsReached arrows objects → arrows ≤ length latest
-reached-within zero latest objects are h = omega arith
-reached-within (suc k) latest objects are h = go (latest_with k objects) refl h
-  where
-    go : (o : Option ℕ) → latest_with k objects ≡ o → is_some o ≡ true → suc k ≤ length latest
-    go None is e = cc
-    go (Some n) is e = omega (arith, slice_get_within latest k n (are k ∙ is))

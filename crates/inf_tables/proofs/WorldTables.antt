@@ -7,21 +7,19 @@ use Rattle.inf_properties.specs.declared.sizes.Owner.{Owner}
 use Rattle.inf_objects.specs.{Measures.CountedBy, declared.objects.Object.Object, declared.sizes.Measure.Measure}
 use Rattle.inf_objects.specs.Objects.{is_lost, object_bytes, object_fixups}
 use Rattle.inf_objects.specs.Tables.{individual_table_cells, table_cells}
-use Rattle.inf_objects.proofs.Written.{later_joined, size_joined}
+use Rattle.inf_area.proofs.Joining.{bytes_of-append, drop_front, later_count-append, size-append}
 use Rattle.inf_tables.specs.Areas.{held_by, held_bytes, individual_places_from, individual_tables, table_places_from, tables_from}
 use Rattle.inf_tables.specs.World.{AreHung}
 
 -- a measure counts the bytes and fixups of an object
 abbrev pub Counts : Object → Measure → Type 0
-Counts o m =
-    (m.table.bytes + m.individual_table.bytes + held_by o.owner o ≡ object_bytes o) ×
+Counts o m = (m.table.bytes + m.individual_table.bytes + held_by o.owner o ≡ object_bytes o) ×
     (m.table.later + m.individual_table.later + 1 ≡ object_fixups o)
 
 pub counts : (o : Object) (m : Measure) → is_lost o.owner ≡ false → CountedBy o.owner o m → Counts o m
 counts o m e h = go o.owner e h
   where
-    go : (w : Owner) → is_lost w ≡ false → CountedBy w o m
-        → (m.table.bytes + m.individual_table.bytes + held_by w o ≡ object_bytes o) ×
+    go : (w : Owner) → is_lost w ≡ false → CountedBy w o m → (m.table.bytes + m.individual_table.bytes + held_by w o ≡ object_bytes o) ×
         (m.table.later + m.individual_table.later + 1 ≡ object_fixups o)
     go Owner.Object e h = (omega (arith, h.0), h.1)
     go Owner.Class e h = h
@@ -54,8 +52,7 @@ with_measure all m = record {
   table = record { bytes = all.table.bytes + m.table.bytes; later = all.table.later + m.table.later };
   individual_table = record {
     bytes = all.individual_table.bytes + m.individual_table.bytes;
-    later = all.individual_table.later +
-        m.individual_table.later;
+    later = all.individual_table.later + m.individual_table.later;
   };
 }
 
@@ -85,32 +82,28 @@ left_next most objects i o all m h is left told =
         left.table_bytes,
         told.table_bytes,
         ap (λ cs. length (bytes_of cs)) tables,
-        size_joined
-            (table_cells (4 + i) o) (tables_from (4 + (i + 1)) rest),
+        size-append (table_cells (4 + i) o) (tables_from (4 + (i + 1)) rest),
       );
       table_later = omega (
         arith,
         left.table_later,
         told.table_later,
         ap later_count tables,
-        later_joined (table_cells (4 + i) o)
-            (tables_from (4 + (i + 1)) rest),
+        later_count-append (table_cells (4 + i) o) (tables_from (4 + (i + 1)) rest),
       );
       individual_bytes = omega (
         arith,
         left.individual_bytes,
         told.individual_bytes,
         ap (λ cs. length (bytes_of cs)) individual,
-        size_joined
-            (individual_table_cells o) (individual_tables rest),
+        size-append (individual_table_cells o) (individual_tables rest),
       );
       individual_later = omega (
         arith,
         left.individual_later,
         told.individual_later,
         ap later_count individual,
-        later_joined
-            (individual_table_cells o) (individual_tables rest),
+        later_count-append (individual_table_cells o) (individual_tables rest),
       );
       within_bytes = omega (arith, left.within_bytes, bytes, told.counts.0);
       within_later = omega (arith, left.within_later, fixups, told.counts.1);
@@ -118,40 +111,10 @@ left_next most objects i o all m h is left told =
       later = omega (arith, left.later, fixups, told.counts.1, ap length here);
     }
 
--- the measure of one object, alone and with the sums before it, is within the sums over all
-pub one_within : (most : ℕ) (objects : List Object) (i : ℕ) (o : Object) (all m : Measure) → i < length objects → o ≡ get_or objects i o
-    → Left most objects i all → Counts o m
-    → (object_bytes o ≤ sum_by object_bytes objects) × (all.table.bytes + m.table.bytes ≤ sum_by object_bytes objects)
-    × (all.individual_table.bytes + m.individual_table.bytes ≤ sum_by object_bytes objects)
-    × (all.table.later + m.table.later ≤ sum_by object_fixups objects) ×
-    (all.individual_table.later + m.individual_table.later ≤ sum_by object_fixups objects)
-one_within most objects i o all m h is left counts =
-    let rest = drop (i + 1) objects in
-    let here = left_is objects i o h is in
-    let bytes = ap (sum_by object_bytes) here ∙ sum_by-cons object_bytes o rest in
-    let fixups = ap (sum_by object_fixups) here ∙ sum_by-cons object_fixups o rest in (
-      omega (arith, left.within_bytes, bytes),
-      omega (arith, left.within_bytes, bytes, counts.0),
-      omega (arith, left.within_bytes, bytes, counts.0),
-      omega (arith, left.within_later, fixups, counts.1),
-      omega (arith, left.within_later, fixups, counts.1),
-    )
-
 -- Where tables begin
-bytes-append : (xs ys : List Cell) → bytes_of (xs ++ ys) ≡ bytes_of xs ++ bytes_of ys
-bytes-append [] ys = refl
-bytes-append (Cell.Byte b ∷ xs) ys = ap (λ bs. b ∷ bs) (bytes-append xs ys)
-bytes-append (Cell.Later t ∷ xs) ys = ap (λ bs. 0 ∷ 0 ∷ bs) (bytes-append xs ys)
-
-drop_front : (n : ℕ) (xs ys : List ℕ) → length xs ≡ n → drop n (xs ++ ys) ≡ ys
-drop_front zero [] ys e = refl
-drop_front (suc n) [] ys e = absurd (omega (arith, e))
-drop_front zero (x ∷ xs) ys e = absurd (omega (arith, e))
-drop_front (suc n) (x ∷ xs) ys e = drop_front n xs ys (omega (arith, e))
-
 -- one more table in front
 front_more : (front : List ℕ) (first rest : List Cell) → front ++ bytes_of (first ++ rest) ≡ (front ++ bytes_of first) ++ bytes_of rest
-front_more front first rest = ap (λ bs. front ++ bs) (bytes-append first rest) ∙ sym (append_assoc front (bytes_of first) (bytes_of rest))
+front_more front first rest = ap (λ bs. front ++ bs) (bytes_of-append first rest) ∙ sym (append_assoc front (bytes_of first) (bytes_of rest))
 
 front_length : (front more : List ℕ) (at : ℕ) → length front ≡ at → length (front ++ more) ≡ at + length more
 front_length front more at e = omega (arith, length-append front more, e)

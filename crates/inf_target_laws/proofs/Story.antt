@@ -125,8 +125,7 @@ module _ (u : Out) (targets : Lookup) (words : List (Text × Word)) where
 
   pub arrays_found : Finds u targets words → (arrays : List Listed) → ListedStand u arrays → AllFound targets words (arrays_cells arrays)
   arrays_found f [] h = tt
-  arrays_found f (a ∷ arrays) h =
-      join (array_cells a) (arrays_cells arrays)
+  arrays_found f (a ∷ arrays) h = join (array_cells a) (arrays_cells arrays)
       (join (count_cells a.kind (length a.entries)) (entries_cells a.kind a.entries) (count_found a.kind (length a.entries))
       (entries_found a.kind a.entries (values_found f a.entries h.0)))
       (arrays_found f arrays h.1)
@@ -148,8 +147,7 @@ module _ (u : Out) (targets : Lookup) (words : List (Text × Word)) where
       (tokens_found f tokens h.1)
 
   line_found : Finds u targets words → (line : LineOf) → TokensStand u line.tokens → AllFound targets words (line_cells line)
-  line_found f line h =
-      (tt, (tt, join (tokens_cells line.tokens) (Cell.Byte 15 ∷ []) (tokens_found f line.tokens h) (tt, tt)))
+  line_found f line h = (tt, (tt, join (tokens_cells line.tokens) (Cell.Byte 15 ∷ []) (tokens_found f line.tokens h) (tt, tt)))
 
   lines_found : Finds u targets words → (lines : List LineOf) → LinesStand u lines → AllFound targets words (lines_cells lines)
   lines_found f [] h = tt
@@ -161,8 +159,7 @@ module _ (u : Out) (targets : Lookup) (words : List (Text × Word)) where
 
   pub verbs_found : Finds u targets words → (verbs : List VerbOf) → VerbsStand u verbs → AllFound targets words (parts_cells verbs)
   verbs_found f [] h = tt
-  verbs_found f (verb ∷ verbs) h =
-      join (verb_cells verb) (parts_cells verbs)
+  verbs_found f (verb ∷ verbs) h = join (verb_cells verb) (parts_cells verbs)
       (tt, lines_found f (lines_of verb) (lines_both verb.first verb.rest h.0.0 h.0.1)) (verbs_found f verbs h.1)
 
   pub addresses_found : (number : ℕ) → number ≤ length targets.verbs → AllFound targets words (address_cells number)
@@ -178,14 +175,12 @@ module _ (u : Out) (targets : Lookup) (words : List (Text × Word)) where
   attributes_found attributes = (tt, (tt, (tt, (tt, (tt, (tt, tt))))))
 
   abbrev link_cells : ℕ → ℕ → ℕ → ℕ → List Cell
-  link_cells parent sibling child part =
-      word_cells (parent % 65536) ++ word_cells (sibling % 65536) ++ word_cells (child % 65536)
+  link_cells parent sibling child part = word_cells (parent % 65536) ++ word_cells (sibling % 65536) ++ word_cells (child % 65536)
       ++ Cell.Later (Target.Part AreaName.PropertyTables part) ∷ []
 
   links_found : (parent sibling child part : ℕ) → part < length targets.property_tables
       → AllFound targets words (link_cells parent sibling child part)
-  links_found parent sibling child part below =
-      (tt, (tt, (tt, (tt, (tt, (tt, (found_below targets.property_tables part below, tt)))))))
+  links_found parent sibling child part below = (tt, (tt, (tt, (tt, (tt, (tt, (found_below targets.property_tables part below, tt)))))))
 
   object_found : (parents : List ℕ) (part : ℕ) (o : Object) → part < length targets.property_tables
       → AllFound targets words (object_cells parents part o)
@@ -259,8 +254,7 @@ module _ (u : Out) (targets : Lookup) (words : List (Text × Word)) where
 
   falling_found : (number : ℕ) (rows : List Property) → RowsFound rows → RowsFound (falling number rows)
   falling_found zero rows h = tt
-  falling_found (suc number) rows h =
-      all_join (λ (p : Property). ValuesFound targets words p.values)
+  falling_found (suc number) rows h = all_join (λ (p : Property). ValuesFound targets words p.values)
       (option_to_list (found number rows)) (falling number rows) (row_at number rows h) (falling_found number rows h)
 
   all_falling_found : (rows : List Property) → RowsFound rows → RowsFound (all_falling rows)
@@ -281,8 +275,7 @@ module _ (u : Out) (targets : Lookup) (words : List (Text × Word)) where
 
   rows_written : (rows : List Property) → RowsFound rows → AllFound targets words (rows_cells rows)
   rows_written [] h = tt
-  rows_written (p ∷ rows) h =
-      join (row_cells p) (rows_cells rows)
+  rows_written (p ∷ rows) h = join (row_cells p) (rows_cells rows)
       (join (size_cells p.number (length p.values)) (values_cells (shown p.values)) (size_found p.number (length p.values))
       (values_written (shown p.values) (shown_found p.values h.0)))
       (rows_written rows h.1)
@@ -379,8 +372,7 @@ one_value u (Some v) (Some vs) values e f g = subst (ValuesStand u) (same_some e
 values_stand : (u : Out) (names : List (Named Place)) (values : List Value) → values_of names ≡ Some values → NamesStand u names
     → ValuesStand u values
 values_stand u [] values e h = subst (ValuesStand u) (same_some e) tt
-values_stand u (n ∷ names) values e h =
-    one_value u (value_by (meaning_in (Some n.standing))) (values_of names) values e
+values_stand u (n ∷ names) values e h = one_value u (value_by (meaning_in (Some n.standing))) (values_of names) values e
     (λ v is. meaning_value u (meaning_in (Some n.standing)) v is (standing_meaning u n.standing h.0))
     (λ vs is. values_stand u names vs is h.1)
 

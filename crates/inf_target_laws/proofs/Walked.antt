@@ -102,8 +102,7 @@ ending_sound {u} {P} limits c h Kind.If = sound_mark c.next
 ending_sound {u} {P} limits c h Kind.Else = sound_mark c.end
 ending_sound {u} {P} limits c h Kind.While = sound_then (sound_jump c.next) (sound_mark c.end)
 ending_sound {u} {P} limits c h Kind.Do = sound_mark c.end
-ending_sound {u} {P} limits c h Kind.For =
-    sound_then (sound_mark c.next) (sound_then (step_sound limits (items_of c.step) h)
+ending_sound {u} {P} limits c h Kind.For = sound_then (sound_mark c.next) (sound_then (step_sound limits (items_of c.step) h)
     (sound_then (sound_jump c.top) (sound_mark c.end)))
 ending_sound {u} {P} limits c h (Kind.Objects how v) =
     sound_then (sound_mark c.next) (sound_then (made_sound (looped_on_made limits (There u P) (fixed_stand u P) how v c.top))
@@ -164,8 +163,7 @@ step_stands u a b same h = subst (λ (s : Option (List Item)). ItemsStand u (ite
 pub begun_moves : {u : Out} {P : Type 0} (limits : Limits) (k : Kind) (constructs : List Construct)
     → Moves limits u P constructs (begun limits k constructs)
 begun_moves {u} {P} limits k constructs = record {
-  keeps =
-      λ o. let g =
+  keeps = λ o. let g =
       (laid_by {limits = limits} {u = u} {P = P} (λ t h. h) (opened_laid limits (There u P) k)).keeps o in (g.0, (λ p. g.1 p.0));
   steps = λ h o. (step_stands u (opened limits k o).0.step None (opened_step limits k o) tt, h);
 }
@@ -236,13 +234,11 @@ module _ {limits : Limits} {context : Context} {u : Out} where
   }
 
   pub joining_steps : (w : Compilation) → Steps limits context u w (construct_joined limits w)
-  joining_steps w =
-      constructs_step (Unit {0}) w (changed (between limits) w.constructs) (λ e. tt)
+  joining_steps w = constructs_step (Unit {0}) w (changed (between limits) w.constructs) (λ e. tt)
       (changed_moves limits (between limits) (between_gives limits) (between_leaves limits) w.constructs)
 
   ending_steps : (w : Compilation) → Steps limits context u w (construct_ended limits w)
-  ending_steps w =
-      constructs_step (Unit {0}) w (ended limits w.constructs) (λ e. tt) (ended_moves limits w.constructs)
+  ending_steps w = constructs_step (Unit {0}) w (ended limits w.constructs) (λ e. tt) (ended_moves limits w.constructs)
 
   pub ahead_steps : (count : ℕ) (w : Compilation) → Steps limits context u w (closed_ahead limits count w)
   ahead_steps count w =
@@ -288,12 +284,10 @@ inner_steps (Next f g) u = steps_then (inner_steps f u) (inner_steps g u)
 inner_steps (Parts {w} trees m) u = parts_step trees w m
 inner_steps {limits} (Cases {w}) u =
     constructs_step (Unit {0}) w (cases_begun limits w.constructs) (λ e. tt) (cases_moves limits w.constructs)
-inner_steps {limits} (Enters {w} is_default) u =
-    constructs_step (Unit {0}) w (changed (entered limits is_default) w.constructs) (λ e. tt)
+inner_steps {limits} (Enters {w} is_default) u = constructs_step (Unit {0}) w (changed (entered limits is_default) w.constructs) (λ e. tt)
     (changed_moves limits (entered limits is_default) (entered_gives limits is_default) (entered_leaves limits is_default) w.constructs)
 inner_steps (Loops {w} trees m) u = loops_step trees w m
-inner_steps {limits} (Over {w}) u =
-    constructs_step (Unit {0}) w (ended limits w.constructs) (λ e. tt) (ended_moves limits w.constructs)
+inner_steps {limits} (Over {w}) u = constructs_step (Unit {0}) w (ended limits w.constructs) (λ e. tt) (ended_moves limits w.constructs)
 
 -- Lemmas about walks
 
@@ -340,8 +334,7 @@ module _ {limits : Limits} {context : Context} {u : Out} where
   ran (Acts f) = walk_steps f u
   ran (Then f g) = steps_then (ran f) (ran g)
   ran (Tells {w} tell remains) = report_steps w (tell w.report)
-  ran (Settles {w} count files place) =
-      steps_then (ahead_steps count w) (begun_ends files place (closed_ahead limits count w))
+  ran (Settles {w} count files place) = steps_then (ahead_steps count w) (begun_ends files place (closed_ahead limits count w))
 
   -- Actions of the grammar, tokens, and cuts
 

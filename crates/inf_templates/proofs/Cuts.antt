@@ -8,8 +8,7 @@ use Rattle.inf_templates.specs.Parts.{call_opcode, calling, calling_routine}
 
 -- the operands that were found are the front of all
 pub front : (n : ℕ) (found rest all : List Simple) → found ++ rest ≡ all → length found ≡ n → found ≡ take n all
-front n found rest all is len =
-    sym (take-append_seam found rest) ∙ ap (λ m. take m (found ++ rest)) len ∙ ap (take n) is
+front n found rest all is len = sym (take-append_seam found rest) ∙ ap (λ m. take m (found ++ rest)) len ∙ ap (take n) is
 
 -- the operands that were found are all where the last one was added
 pub whole : (n : ℕ) (found new rest all : List Simple) (x : Simple) → found ++ rest ≡ all → rest ≡ x ∷ [] → new ≡ found ++ x ∷ [] →

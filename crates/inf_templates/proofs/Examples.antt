@@ -33,8 +33,7 @@ begun locals =
       first = record { file = 0; line = 1 };
       next = 0;
       past = None;
-      kept =
-          None;
+      kept = None;
     }
 
 -- the bytes of a cell, where `numbers` are those of names

@@ -15,8 +15,7 @@ last_first (q ∷ ps) p o = ap (worked_out q) (last_first ps p o)
 pub evaluated_last : (limits : Limits) (trees : List Tree) (all others : List Argument) (last : Argument) (o : Out) →
     all ≡ others ++ last ∷ []
     → evaluated (parts_of limits trees all) o ≡ evaluated (parts_of limits trees others) (worked_out (part_of limits trees last) o)
-evaluated_last limits trees all others last o is =
-    ap (λ gs. evaluated (parts_of limits trees gs) o) is
+evaluated_last limits trees all others last o is = ap (λ gs. evaluated (parts_of limits trees gs) o) is
     ∙ ap (λ ps. evaluated ps o) (map-append (part_of limits trees) others (last ∷ []))
     ∙ last_first (parts_of limits trees others) (part_of limits trees last) o
 

@@ -69,18 +69,15 @@ pub at_once : (limits : Limits) (t : Test) (x : Simple) (b : Part) (others : Lis
     ≡ compared limits t (take (most_compared t) (operands (is x ∷ b ∷ others))) sense label o
 unfolding tests
 at_once limits Test.Equal x b others sense label there o few simple = once_triple limits x b others sense label there o few simple
-at_once limits Test.Less x b others sense label there o few simple =
-    once_single limits Test.Less x b others sense label there o few simple
+at_once limits Test.Less x b others sense label there o few simple = once_single limits Test.Less x b others sense label there o few simple
 at_once limits Test.Greater x b others sense label there o few simple =
     once_single limits Test.Greater x b others sense label there o few simple
 at_once limits Test.AtMost x b others sense label there o few simple =
     once_single limits Test.AtMost x b others sense label there o few simple
 at_once limits Test.AtLeast x b others sense label there o few simple =
     once_single limits Test.AtLeast x b others sense label there o few simple
-at_once limits Test.Has x b others sense label there o few simple =
-    once_single limits Test.Has x b others sense label there o few simple
-at_once limits Test.In x b others sense label there o few simple =
-    once_single limits Test.In x b others sense label there o few simple
+at_once limits Test.Has x b others sense label there o few simple = once_single limits Test.Has x b others sense label there o few simple
+at_once limits Test.In x b others sense label there o few simple = once_single limits Test.In x b others sense label there o few simple
 at_once limits Test.OfClass x b others sense label there o few simple =
     once_single limits Test.OfClass x b others sense label there o few simple
 at_once limits Test.Provides x b others sense label there o few simple =

@@ -38,8 +38,7 @@ pick-old (Some best) n len k l h = go (ltb len best.1 || (eqb len best.1 && leb 
         let tie : best.1 ≡ len → n < best.0 = λ is. grind (arith, nat_tests) in
         record {
           longer = omega arith;
-          lower = λ (fits : len ≤ l). let at : best.1 ≡ len = omega arith in omega
-              (arith, tie at, lower (omega arith));
+          lower = λ (fits : len ≤ l). let at : best.1 ≡ len = omega arith in omega (arith, tie at, lower (omega arith));
         }
 
 -- a text is no better than the best one, if the items begin with it

@@ -26,14 +26,12 @@ filled-more zs i k z len room filled =
     let lt : i < length zs = omega arith in
     let seam : set (front ++ 5 ∷ replicate k 5) i z ≡ front ++ z ∷ replicate k 5 =
     ap (λ (j : ℕ). set (front ++ 5 ∷ replicate k 5) j z) (sym at) ∙ set-append_seam front 5 (replicate k 5) z in
-    let written : set zs i z ≡ front ++ z ∷ replicate k 5 =
-    ap (λ (xs : List ℕ). set xs i z) filled ∙ seam in
+    let written : set zs i z ≡ front ++ z ∷ replicate k 5 = ap (λ (xs : List ℕ). set xs i z) filled ∙ seam in
     rw (take_more_set zs i z lt) (written ∙ sym (append_snoc front z (replicate k 5)))
 
 -- Z-characters given in two steps are those given at once
 pub given-more : (n : ℕ) (old xs s ys t : List ℕ) → s ≡ take n (old ++ xs) → t ≡ take n (s ++ ys) → t ≡ take n (old ++ (xs ++ ys))
-given-more n old xs s ys t first second =
-    second ∙ rw first (take-take_append n (old ++ xs) ys ∙ ap (take n) (append_assoc old xs ys))
+given-more n old xs s ys t first second = second ∙ rw first (take-take_append n (old ++ xs) ys ∙ ap (take n) (append_assoc old xs ys))
 
 -- the given Z-characters, filled to nine, are those of the whole front
 pub filled-all : (zs front : List ℕ) (len : ℕ) → length zs ≡ 9 → len ≤ 9 → take len zs ≡ front → zs ≡ take len zs ++ replicate (9 - len) 5 →
@@ -62,7 +60,4 @@ Gives-more front new zs items rest whole x split is given h =
     let regrouped : front ++ (zs ++ tail) ≡ front ++ (flat_map f (x ∷ rest) ++ replicate 9 5) =
     rw is (ap (λ (r : List ℕ). front ++ r) (sym (append_assoc (item_zs (lowered x)) (flat_map f rest) (replicate 9 5)))) in
     let text : IsText (x ∷ rest) = rw split at h.text in
-    record {
-      value = given-more 9 front zs new tail (take 9 (new ++ tail)) given refl ∙ ap (take 9) regrouped ∙ value;
-      text = text.1;
-    }
+    record { value = given-more 9 front zs new tail (take 9 (new ++ tail)) given refl ∙ ap (take 9) regrouped ∙ value; text = text.1 }

@@ -1,5 +1,5 @@
 -- The items that texts have in common, where one follows the other.
-use Rattle.std.proofs.Common.{◌≡◌, ◌≢◌, ◌<◌, ◌≤◌, ◌+◌, ℕ, zero, suc, Bool, true, false, ◌&&◌, ◌||◌, cond, eqb, Option, None, List, [], ◌∷◌}
+use Rattle.std.proofs.Common.{◌≡◌, ◌≢◌, ◌<◌, ◌≤◌, ◌+◌, ℕ, zero, suc, Bool, true, false, ◌&&◌, ◌||◌, cond, eqb, Option, List, [], ◌∷◌}
 use Rattle.std.proofs.Common.{length, take, drop, get_or, min, refl, sym, ap, ◌∙◌, inl, inr, arith, ◌⊎◌}
 use Rattle.std.proofs.{lemmas.Bool.Decides.eqb_tells, lemmas.Bool.Decides.nat_tests, lemmas.Bool.cases_lt, lemmas.List.drop_all}
 use Rattle.std.proofs.{lemmas.List.get_or_read}
@@ -105,19 +105,6 @@ pub record Searches (texts : List (List TextItem)) (items : List TextItem) (matc
   pub linked : AreLinked texts before links
   pub value : best_of texts items best links ≡ whole
 
--- the search goes on behind the first text that was looked at
-pub Searches-first : (texts : List (List TextItem)) (items : List TextItem) (links rest : List Link) (l : Link) (matched : ℕ)
-    (best : Option (ℕ × ℕ)) → links ≡ l ∷ rest → HaveLinks texts links → matched ≡ common items (text_at texts l.number) → best ≡ tried
-    items None l.number (text_at texts l.number) → Searches texts items matched best rest (best_of texts items None links)
-Searches-first texts items links rest l matched best split h matched_is best_is =
-    let linked : AreLinked texts h.before (l ∷ rest) = rw split at h.linked in
-    record {
-      before = text_at texts l.number;
-      matched_is = matched_is;
-      linked = linked.2;
-      value = rw (best_is, split) refl;
-    }
-
 -- the search goes on behind one more text, looked at or passed over
 pub Searches-more : (texts : List (List TextItem)) (items : List TextItem) (matched next : ℕ) (best better : Option (ℕ × ℕ))
     (links rest : List Link) (l : Link) (whole : Option (ℕ × ℕ)) → links ≡ l ∷ rest → next ≡ common items (text_at texts l.number) → better
@@ -126,12 +113,7 @@ pub Searches-more : (texts : List (List TextItem)) (items : List TextItem) (matc
 Searches-more texts items matched next best better links rest l whole split next_is better_is h =
     let linked : AreLinked texts h.before (l ∷ rest) = rw split at h.linked in
     let value : best_of texts items best (l ∷ rest) ≡ whole = rw split at h.value in
-    record {
-      before = text_at texts l.number;
-      matched_is = next_is;
-      linked = linked.2;
-      value = rw better_is value;
-    }
+    record { before = text_at texts l.number; matched_is = next_is; linked = linked.2; value = rw better_is value }
 
 -- the next text is one of the texts, and its link says what is in common with it
 pub record IsNext (texts : List (List TextItem)) (items : List TextItem) (matched : ℕ) (l : Link) : Type 0 where
@@ -211,8 +193,7 @@ AreLinked-from texts before [] h = tt
 AreLinked-from texts before (n ∷ order) h = (
   h 0 (omega arith),
   record { len = refl; shared = refl; next = refl },
-  AreLinked-from texts (text_at texts n) order
-      (λ j lt. h (suc j) (omega arith)),
+  AreLinked-from texts (text_at texts n) order (λ j lt. h (suc j) (omega arith)),
 )
 
 AreLinked-drop : (texts : List (List TextItem)) (before : List TextItem) (n : ℕ) (links : List Link) → AreLinked texts before links →

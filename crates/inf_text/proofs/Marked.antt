@@ -32,7 +32,3 @@ pub are_words-packed : (declared : List (List TextItem)) (items : List TextItem)
     IsTrue (are_words (packed items declared))
 unfolding packed
 are_words-packed declared items h text = are_words-words (zs_from declared 0 items) (AreZs-packed declared items h text)
-
--- a text, packed without abbreviations
-pub are_words-packed_alone : (items : List TextItem) → IsText items → IsTrue (are_words (packed items []))
-are_words-packed_alone items text = are_words-packed [] items (record { few = omega arith; texts = tt }) text

@@ -91,8 +91,7 @@ AreRangesTo-more texts order place code ranges starts ends is small ends_are sta
     begins (inr (used, kept)) j w (inr ge) le =
         let at : j ≡ place = omega arith in
         rw (kept, at) (omega (arith, h.ordered (code_at texts order place), h.fits (code_at texts order place)))
-    begins (inl (none, written)) j (inl (same, now)) (inl lt) le =
-        absurd (omega (arith, rw (same, none) at (h.ends j lt)))
+    begins (inl (none, written)) j (inl (same, now)) (inl lt) le = absurd (omega (arith, rw (same, none) at (h.ends j lt)))
     begins (inl (none, written)) j (inl (same, now)) (inr ge) le = rw (written, now) ge
     begins (inl (none, written)) j (inr (other, before)) (inl lt) le = rw (written, before) (h.starts j lt)
     begins (inl (none, written)) j (inr (other, before)) (inr ge) le =
@@ -131,11 +130,7 @@ AreRangesTo-more texts order place code ranges starts ends is small ends_are sta
 
 -- the order of no numbers
 pub IsOrder-none : IsOrder 0 []
-IsOrder-none = record {
-  below = λ j lt. absurd (omega arith);
-  len = refl;
-  all = λ k lt. absurd (omega arith);
-}
+IsOrder-none = record { below = λ j lt. absurd (omega arith); len = refl; all = λ k lt. absurd (omega arith) }
 
 -- a number is put into an order
 pub IsOrder-insert : (count place : ℕ) (order : List ℕ) → place ≤ length order → IsOrder count order →
@@ -187,8 +182,7 @@ IsOrder-more texts place old sorted numbers order links now some le h put same l
     let count = length texts - 1 in
     let more : count + 1 ≡ length texts = omega arith in
     let all : IsOrder (length texts) sorted = rw put (rw more at (IsOrder-insert count place old le h)) in
-    let len : length now ≡ length texts =
-    ap length (seen ∙ linked) ∙ length-linked texts [] numbers ∙ ap length same ∙ all.len in
+    let len : length now ≡ length texts = ap length (seen ∙ linked) ∙ length-linked texts [] numbers ∙ ap length same ∙ all.len in
     (all, rw len at is)
 
 -- an abbreviation is not empty

@@ -182,8 +182,7 @@ prints_chosen texts c more xs ys false p q = q
 -- the Z-characters of a code print it
 printed-character : (texts : List (List TextItem)) (c : ℕ) (zs : List ℕ) → Prints texts (character_zs c) c zs
 unfolding character_zs
-printed-character texts c zs =
-    prints_chosen texts c zs _ _ (eqb c 32) (prints_space texts c zs)
+printed-character texts c zs = prints_chosen texts c zs _ _ (eqb c 32) (prints_space texts c zs)
     (prints_chosen texts c zs _ _ (leb 97 c && leb c 122) (prints_small texts c zs)
     (prints_chosen texts c zs _ _ (leb 65 c && leb c 90) (prints_capital texts c zs)
     (prints_chosen texts c zs _ _ (eqb c 13) (prints_new_line texts c zs)
@@ -246,8 +245,7 @@ AreZs-chosen false xs ys p q = q
 
 AreZs-character : (c : ℕ) → c < 256 → AreZs (character_zs c)
 unfolding character_zs
-AreZs-character c lt =
-    AreZs-chosen (eqb c 32) _ _ (λ _. (lit< tt, tt))
+AreZs-character c lt = AreZs-chosen (eqb c 32) _ _ (λ _. (lit< tt, tt))
     (AreZs-chosen (leb 97 c && leb c 122) _ _ (λ h. let high : c ≤ 122 = grind (arith, nat_tests, (and_both (leb 97 c) (leb c 122) h).1) in
     (omega arith, tt))
     (AreZs-chosen (leb 65 c && leb c 90) _ _ (λ h. let high : c ≤ 90 = grind (arith, nat_tests, (and_both (leb 65 c) (leb c 90) h).1) in

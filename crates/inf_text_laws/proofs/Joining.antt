@@ -28,8 +28,7 @@ piece_at-unmarked set m b bytes black = rw black refl
 unmarked : (set : CharSet) (m : Mode) (bytes : List ℕ) → begins_white set bytes ≡ false →
     text_from set m true 0 bytes ≡ text_from set m false 0 bytes
 unmarked set m [] h = refl
-unmarked set m (b ∷ bytes) h =
-    ap (λ (r : Result Found TextFault). and_then r (λ found. text_from set m found.is_mark found.behind bytes))
+unmarked set m (b ∷ bytes) h = ap (λ (r : Result Found TextFault). and_then r (λ found. text_from set m found.is_mark found.behind bytes))
     (piece_at-unmarked set m b bytes h)
 
 not_white : (t : Bool) → not t ≡ true → t ≡ false

@@ -1,6 +1,6 @@
 -- Plain bytes are read byte by byte.
 use Rattle.std.proofs.Common.{◌≡◌, ◌≤◌, ◌+◌, ℕ, zero, suc, Bool, true, false, not, ◌&&◌, ◌||◌, cond, eqb, leb, Option, None, Some, Result}
-use Rattle.std.proofs.Common.{Ok, Err, List, [], ◌∷◌, length, take, drop, replicate, refl, sym, ap, ◌∙◌, inl, inr, arith, option_map, ◌⊎◌}
+use Rattle.std.proofs.Common.{Ok, Err, List, [], ◌∷◌, take, drop, replicate, refl, sym, ap, ◌∙◌, inl, inr, arith, option_map, ◌⊎◌}
 use Rattle.std.proofs.{lemmas.Bool.Decides.nat_tests, lemmas.List.Folds.length-prefix_len}
 use Rattle.std.specs.List.{list_any, position_from}
 use Rattle.inf_characters.specs.{declared.characters.CharSet.CharSet, declared.reading.Mode.Mode, declared.reading.TextFault.TextFault}
@@ -39,10 +39,6 @@ white_is_space : (set : CharSet) (b : ℕ) → is_white set b ≡ true → zscii
 unfolding zscii_of
 white_is_space set b h = rw h refl
 
--- a run without line ends is as many spaces
-spaces-plain : (after_mark : Bool) (run : List ℕ) → list_any is_line_end run ≡ false → spaces after_mark run ≡ length run
-spaces-plain after_mark run h = rw h refl
-
 no_line_end : (n : ℕ) (bytes : List ℕ) → ArePlain bytes → list_any is_line_end (take n bytes) ≡ false
 no_line_end zero bytes h = refl
 no_line_end (suc n) [] h = refl
@@ -51,13 +47,11 @@ no_line_end (suc n) (b ∷ bytes) h = rw ((plain b h.0).no_end) (no_line_end n b
 -- a byte that is a character, and one that is none
 byte_by_byte-some : (set : CharSet) (b c : ℕ) (bytes : List ℕ) → zscii_of set b ≡ Some c →
     byte_by_byte set (b ∷ bytes) ≡ with_front (TextItem.Character c ∷ []) (byte_by_byte set bytes)
-byte_by_byte-some set b c bytes e =
-    ap (λ (o : Option ℕ). elim o as (λ _. Result (List TextItem) TextFault)
+byte_by_byte-some set b c bytes e = ap (λ (o : Option ℕ). elim o as (λ _. Result (List TextItem) TextFault)
     [ None ↦ Err TextFault.NoZscii | Some c ↦ with_front (TextItem.Character c ∷ []) (byte_by_byte set bytes) ]) e
 
 byte_by_byte-none : (set : CharSet) (b : ℕ) (bytes : List ℕ) → zscii_of set b ≡ None → byte_by_byte set (b ∷ bytes) ≡ Err TextFault.NoZscii
-byte_by_byte-none set b bytes e =
-    ap (λ (o : Option ℕ). elim o as (λ _. Result (List TextItem) TextFault)
+byte_by_byte-none set b bytes e = ap (λ (o : Option ℕ). elim o as (λ _. Result (List TextItem) TextFault)
     [ None ↦ Err TextFault.NoZscii | Some c ↦ with_front (TextItem.Character c ∷ []) (byte_by_byte set bytes) ]) e
 
 -- the white space at the front is as many spaces, byte by byte
@@ -124,8 +118,7 @@ piece-black : (set : CharSet) (mode : Mode) (after_mark : Bool) (b : ℕ) (bytes
       item = TextItem.Character c;
       count = 1;
       behind = 0;
-      is_mark =
-          is_new_line_mark mode b;
+      is_mark = is_new_line_mark mode b;
     })
 unfolding piece_at
 piece-black set mode after_mark b bytes c h black code =
@@ -162,13 +155,11 @@ plainly set mode (b ∷ bytes) h after_mark zero le =
         (piece-white set mode after_mark b bytes p h.1 e)
         ∙ ap (with_front (replicate (suc n) (TextItem.Character 32))) (next false n (omega arith))
         ∙ sym whole
-    front next p false e (Some c) code =
-        ap (λ (r : Result Found TextFault). and_then r (λ f. text_from set mode f.is_mark f.behind bytes))
+    front next p false e (Some c) code = ap (λ (r : Result Found TextFault). and_then r (λ f. text_from set mode f.is_mark f.behind bytes))
         (piece-black set mode after_mark b bytes c p e code)
         ∙ ap (with_front (TextItem.Character c ∷ [])) (next (is_new_line_mark mode b) 0 (omega arith))
         ∙ sym (byte_by_byte-some set b c bytes code)
-    front next p false e None code =
-        ap (λ (r : Result Found TextFault). and_then r (λ f. text_from set mode f.is_mark f.behind bytes))
+    front next p false e None code = ap (λ (r : Result Found TextFault). and_then r (λ f. text_from set mode f.is_mark f.behind bytes))
         (piece-none set mode after_mark b bytes p e code)
         ∙ sym (byte_by_byte-none set b bytes code)
 

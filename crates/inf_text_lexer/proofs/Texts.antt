@@ -20,5 +20,4 @@ pub token_is : (set : CharSet) (limit : ℕ) (lines : Lines) (text behind : List
     → record { ending = e; seen = after; rest = behind } ≡ find set limit State.Gap (begun lines) text
     → k ≡ kind_of set e after.kept
     → read_with k after behind ≡ next_token set limit lines text
-token_is set limit lines text behind e after k found is =
-    ap (λ x. read_with x after behind) is ∙ ap (λ (f : Found). read_of set f) found
+token_is set limit lines text behind e after k found is = ap (λ x. read_with x after behind) is ∙ ap (λ (f : Found). read_of set f) found

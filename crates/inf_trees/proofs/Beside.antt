@@ -35,8 +35,7 @@ stepped_gathers GatherStep.Action u = refl
 stepped_gathers GatherStep.System u = refl
 stepped_gathers _ u = refl
 
-played_gathers : (r : Role) (u : Unit) → is_some (step_in r) ≡ true
-    → unit_played r u ≡ record u { gathering = (unit_played r u).gathering }
+played_gathers : (r : Role) (u : Unit) → is_some (step_in r) ≡ true → unit_played r u ≡ record u { gathering = (unit_played r u).gathering }
 played_gathers (Role.Gather s) u is = stepped_gathers s u
 played_gathers _ u is = cc
 
@@ -50,6 +49,5 @@ played_alone limits context place _ w is = cc
 
 pub step_acts : (limits : Limits) (context : Context) (place : Place) (a : Action) (w : Compilation) (u : Unit) → is_step a ≡ true
     → act limits context place a (record w { unit = u }) ≡ record w { unit = record u { gathering = (acted a u).gathering } }
-step_acts limits context place a w u is =
-    played_alone limits context place (role_of a) (record w { unit = u }) is
+step_acts limits context place a w u is = played_alone limits context place (role_of a) (record w { unit = u }) is
     ∙ ap (λ (x : Unit). record w { unit = x }) (acted_gathers a u is)

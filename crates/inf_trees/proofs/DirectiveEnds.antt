@@ -46,8 +46,7 @@ module _ (limits : Limits) (context : Context) (first : Place) where
 
   constant_declares : (name : Name) (m : Option Meaning) (finding : Option Finding) (w : Compilation)
       → IsOver w (constant_declared limits context first name m finding w)
-  constant_declares name m finding w =
-      constant_ends name (declare_fault limits name.bytes w.output.names) finding
+  constant_declares name m finding w = constant_ends name (declare_fault limits name.bytes w.output.names) finding
       (record w { output = declared limits name.bytes name.place (constant_meaning m finding) w.output })
 
   constant_over : (names : List Name) (w : Compilation) → IsOver w (constant limits context first names w)
@@ -57,8 +56,7 @@ module _ (limits : Limits) (context : Context) (first : Place) where
       constant_declares name m (constant_finding m (finding_at 0 Wanted.Constant w)) w
 
   default_over : (names : List Name) (w : Compilation) → IsOver w (default limits context first names w)
-  default_over names w =
-      of_both (IsOver w) (is_first_declared names w.output.names) (unit_ended limits context first true nothing_found w)
+  default_over names w = of_both (IsOver w) (is_first_declared names w.output.names) (unit_ended limits context first true nothing_found w)
       (constant limits context first names w) (λ e. refl) (λ e. constant_over names w)
 
   -- Lemmas about routines
@@ -79,24 +77,21 @@ module _ (limits : Limits) (context : Context) (first : Place) where
   new_stub_over (name ∷ names) w = stubbed_over (routine_declared limits name w)
 
   stub_over : (names : List Name) (w : Compilation) → IsOver w (stub limits context first names w)
-  stub_over names w =
-      of_both (IsOver w) (is_first_declared names w.output.names) (unit_ended limits context first true nothing_found w)
+  stub_over names w = of_both (IsOver w) (is_first_declared names w.output.names) (unit_ended limits context first true nothing_found w)
       (new_stub limits context first names w) (λ e. refl) (λ e. new_stub_over names w)
 
   -- attributes, properties, variables, fake actions and low strings
 
   attribute_over : (names : List Name) (w : Compilation) → IsOver w (attribute limits context first names w)
   attribute_over [] w = refl
-  attribute_over (name ∷ names) w =
-      of_both (IsOver w) (is_alias names w.unit.gathering.leaves)
+  attribute_over (name ∷ names) w = of_both (IsOver w) (is_alias names w.unit.gathering.leaves)
       (alias_told limits context first name (name_order w.unit.tokens) FixedLimit.Attributes w) (attribute_with limits context first name w)
       (λ e. refl) (λ e. refl)
 
   property_named_over : (additive : Bool) (names : List Name) (w : Compilation)
       → IsOver w (property_named limits context first additive names w)
   property_named_over additive [] w = refl
-  property_named_over additive (name ∷ names) w =
-      of_both (IsOver w) (is_alias names w.unit.gathering.leaves)
+  property_named_over additive (name ∷ names) w = of_both (IsOver w) (is_alias names w.unit.gathering.leaves)
       (alias_told limits context first name (property_order w.unit.tokens additive) FixedLimit.Properties w)
       (property_with limits context first additive name w) (λ e. refl) (λ e. refl)
 

@@ -7,7 +7,7 @@ use Rattle.inf_machine.specs.{Machine.fits, declared.symbols.Symbol.Symbol}
 use Rattle.inf_machine.specs.Grammar.{Event, IsOneOf, IsText, Leads, Row, action, has, here, row, token}
 use Rattle.inf_machine.proofs.{Sets.has_and, Sets.has_zero, Taking.leads_only}
 use Rattle.inf_syntax.specs.{Atoms.mark_atom, Rows.row as row_of, declared.actions.Action.Action}
-use Rattle.inf_syntax.specs.Parts.{ !end_directive, 'hash', 'semicolon', directive, piece, whole_directive}
+use Rattle.inf_syntax.specs.declared.parts.names.TheConstants as Part
 use Rattle.inf_grammar.specs.{Evaluated.language_is_decided, Language.grammar, Language.known}
 use Rattle.inf_grammar.proofs.Spaced.{rule_is_spaced}
 use Rattle.inf_statement_laws.proofs.Rules.{number}
@@ -59,33 +59,32 @@ no_word (token {class} {atom = one} h leads) out atom rest same is = no_word_fir
 no_word (action leads) out atom rest same is = no_word leads out atom rest same is
 no_word (row m free leads) out atom rest same is = cc
 
-pub sign_outside : (symbols : List (Symbol Action)) → outside ('hash' ∷ symbols) ≡ true
+pub sign_outside : (symbols : List (Symbol Action)) → outside (Part.HASH ∷ symbols) ≡ true
 unfolding grammar
 sign_outside symbols = refl
 
 -- Lemmas about rows
 
 abbrev pub unit_end : List (Symbol Action)
-unit_end = !end_directive ∷ 'semicolon' ∷ []
+unit_end = Part.DO_END_DIRECTIVE ∷ Part.SEMICOLON ∷ []
 
 -- A row of a directive is that of those that are one unit, or begins with none of the words.
 pub data DirectiveRow : List (Symbol Action) → Type 0 where
-  IsWhole : DirectiveRow (whole_directive ∷ unit_end)
+  IsWhole : DirectiveRow (Part.WHOLE_DIRECTIVE ∷ unit_end)
   IsOutside : {parts : List (Symbol Action)} → outside parts ≡ true → DirectiveRow parts
 
 abbrev directive_kind : (parts : List (Symbol Action)) → Option (DirectiveRow parts)
-directive_kind parts =
-    or_else (bind (holds (outside parts)) (λ is. Some (IsOutside is)))
-    (bind (same_symbols parts (whole_directive ∷ unit_end)) (λ same. Some (subst DirectiveRow (sym same) IsWhole)))
+directive_kind parts = or_else (bind (holds (outside parts)) (λ is. Some (IsOutside is)))
+    (bind (same_symbols parts (Part.WHOLE_DIRECTIVE ∷ unit_end)) (λ same. Some (subst DirectiveRow (sym same) IsWhole)))
 
-pub directive_row : (r : Row Action) → IsOneOf r (grammar.rows_of (number directive)) → DirectiveRow r.parts
+pub directive_row : (r : Row Action) → IsOneOf r (grammar.rows_of (number Part.DIRECTIVE)) → DirectiveRow r.parts
 unfolding grammar
-directive_row r m = from_some (each_row DirectiveRow directive_kind (grammar.rows_of (number directive))) refl r m
+directive_row r m = from_some (each_row DirectiveRow directive_kind (grammar.rows_of (number Part.DIRECTIVE))) refl r m
 
 abbrev pub piece_rows : List (Row Action)
-piece_rows = row_of ('semicolon' ∷ []) ∷ row_of ('hash' ∷ directive ∷ []) ∷ row_of (directive ∷ []) ∷ []
+piece_rows = row_of (Part.SEMICOLON ∷ []) ∷ row_of (Part.HASH ∷ Part.DIRECTIVE ∷ []) ∷ row_of (Part.DIRECTIVE ∷ []) ∷ []
 
-pub pieces_have : grammar.rows_of (number piece) ≡ piece_rows
+pub pieces_have : grammar.rows_of (number Part.PIECE) ≡ piece_rows
 unfolding grammar
 pieces_have = refl
 
@@ -93,25 +92,24 @@ pieces_have = refl
 
 by_row : {parts : List (Symbol Action)} {atoms : List ℕ} {events : List (Event Action)} → DirectiveRow parts
     → IsText grammar parts atoms events
-    → (atom : ℕ) (rest : List ℕ) → atoms ≡ atom ∷ rest → is_word atom ≡ true → IsText grammar (whole_directive ∷ unit_end) atoms events
+    → (atom : ℕ) (rest : List ℕ) → atoms ≡ atom ∷ rest → is_word atom ≡ true → IsText grammar (Part.WHOLE_DIRECTIVE ∷ unit_end) atoms events
 by_row IsWhole text atom rest same is = text
 by_row (IsOutside out) text atom rest same is = absurd (no_word text out atom rest same is)
 
 directive_text : (atom : ℕ) (atoms : List ℕ) (events : List (Event Action)) → is_word atom ≡ true
-    → IsText grammar (directive ∷ []) (atom ∷ atoms) events → IsText grammar (whole_directive ∷ unit_end) (atom ∷ atoms) events
-directive_text atom atoms events is text =
-    of_rule (number directive) text (λ r m t. by_row (directive_row r m) t atom atoms refl is)
+    → IsText grammar (Part.DIRECTIVE ∷ []) (atom ∷ atoms) events → IsText grammar (Part.WHOLE_DIRECTIVE ∷ unit_end) (atom ∷ atoms) events
+directive_text atom atoms events is text = of_rule (number Part.DIRECTIVE) text (λ r m t. by_row (directive_row r m) t atom atoms refl is)
 
 -- No directive begins with the sign.
-sign_unfit : fits grammar known (mark_atom Mark.Hash) (directive ∷ []) ≡ false
+sign_unfit : fits grammar known (mark_atom Mark.Hash) (Part.DIRECTIVE ∷ []) ≡ false
 unfolding grammar known
 sign_unfit = refl
 
 pub no_sign : (atom : ℕ) (atoms : List ℕ) (events : List (Event Action)) → atom ≡ mark_atom Mark.Hash
-    → IsText grammar (directive ∷ []) (atom ∷ atoms) events → ⊥
+    → IsText grammar (Part.DIRECTIVE ∷ []) (atom ∷ atoms) events → ⊥
 no_sign atom atoms events is text =
     let one = leads_only grammar known language_is_decided text (rule_is_spaced 2) in
-    contrary (sym one.fits_here ∙ ap (λ a. fits grammar known a (directive ∷ [])) is ∙ sign_unfit)
+    contrary (sym one.fits_here ∙ ap (λ a. fits grammar known a (Part.DIRECTIVE ∷ [])) is ∙ sign_unfit)
   where
     contrary : true ≡ false → ⊥
     contrary same = cc
@@ -124,15 +122,15 @@ pub record UnitText (atoms : List ℕ) (events : List (Event Action)) : Type 0 w
   pub bytes : needs_in Bytes events ≤ 0
   pub places : needs_in Places events ≤ 0
 
-word_typed : is_some (walk 80 Action.EndDirective Free (whole_directive ∷ unit_end) Ended) ≡ true
+word_typed : is_some (walk 80 Action.EndDirective Free (Part.WHOLE_DIRECTIVE ∷ unit_end) Ended) ≡ true
 unfolding grammar declared
 word_typed = refl
 
-sign_typed : is_some (walk 80 Action.EndDirective Free ('hash' ∷ whole_directive ∷ unit_end) Ended) ≡ true
+sign_typed : is_some (walk 80 Action.EndDirective Free (Part.HASH ∷ Part.WHOLE_DIRECTIVE ∷ unit_end) Ended) ≡ true
 unfolding grammar declared
 sign_typed = refl
 
-free_of : (kind : Kind) → weight of_directives kind (whole_directive ∷ unit_end) ≡ 0
+free_of : (kind : Kind) → weight of_directives kind (Part.WHOLE_DIRECTIVE ∷ unit_end) ≡ 0
 unfolding of_directives
 free_of Bytes = refl
 free_of Places = refl
@@ -141,7 +139,7 @@ directives_keep : (kind : Kind) → AllKeep of_directives kind
 directives_keep Bytes = directive_bytes
 directives_keep Places = directive_places
 
-no_needs : (kind : Kind) {atoms : List ℕ} {events : List (Event Action)} → IsText grammar (whole_directive ∷ unit_end) atoms events
+no_needs : (kind : Kind) {atoms : List ℕ} {events : List (Event Action)} → IsText grammar (Part.WHOLE_DIRECTIVE ∷ unit_end) atoms events
     → needs_in kind events ≤ 0
 no_needs kind text =
     let none = free_of kind in
@@ -149,45 +147,46 @@ no_needs kind text =
     omega (arith, none, less)
 
 semicolon_none : (first second : ℕ) (atoms : List ℕ) (events : List (Event Action))
-    → IsText grammar ('semicolon' ∷ []) (first ∷ second ∷ atoms)
+    → IsText grammar (Part.SEMICOLON ∷ []) (first ∷ second ∷ atoms)
     events → ⊥
 semicolon_none first second atoms events (token h leads) = elim leads [ ]
 
 with_sign : (first second : ℕ) (atoms : List ℕ) (events : List (Event Action)) → is_word second ≡ true
-    → IsText grammar ('hash' ∷ directive ∷ []) (first ∷ second ∷ atoms) events → UnitText (first ∷ second ∷ atoms) events
+    → IsText grammar (Part.HASH ∷ Part.DIRECTIVE ∷ []) (first ∷ second ∷ atoms) events → UnitText (first ∷ second ∷ atoms) events
 with_sign first second atoms events is (token {events = rest} h leads) =
     let text = directive_text second atoms rest is leads in
     record {
-      symbols = 'hash' ∷ whole_directive ∷ unit_end;
-      typed = from_some (walk 80 Action.EndDirective Free ('hash' ∷ whole_directive ∷ unit_end) Ended) sign_typed;
+      symbols = Part.HASH ∷ Part.WHOLE_DIRECTIVE ∷ unit_end;
+      typed = from_some (walk 80 Action.EndDirective Free (Part.HASH ∷ Part.WHOLE_DIRECTIVE ∷ unit_end) Ended) sign_typed;
       text = token h text;
       bytes = no_needs Bytes text;
       places = no_needs Places text;
     }
 
 without_sign : (first second : ℕ) (atoms : List ℕ) (events : List (Event Action)) → is_word first ≡ true
-    → IsText grammar (directive ∷ []) (first ∷ second ∷ atoms) events → UnitText (first ∷ second ∷ atoms) events
+    → IsText grammar (Part.DIRECTIVE ∷ []) (first ∷ second ∷ atoms) events → UnitText (first ∷ second ∷ atoms) events
 without_sign first second atoms events is text =
     let text = directive_text first (second ∷ atoms) events is text in
     record {
-      symbols = whole_directive ∷ unit_end;
-      typed = from_some (walk 80 Action.EndDirective Free (whole_directive ∷ unit_end) Ended) word_typed;
+      symbols = Part.WHOLE_DIRECTIVE ∷ unit_end;
+      typed = from_some (walk 80 Action.EndDirective Free (Part.WHOLE_DIRECTIVE ∷ unit_end) Ended) word_typed;
       text = text;
       bytes = no_needs Bytes text;
       places = no_needs Places text;
     }
 
-pub piece_text : (atoms : List ℕ) (events : List (Event Action)) → begins_directive atoms ≡ true → IsText grammar (piece ∷ []) atoms events
+pub piece_text : (atoms : List ℕ) (events : List (Event Action)) → begins_directive atoms ≡ true → IsText grammar (Part.PIECE ∷
+    []) atoms events
     → UnitText atoms events
 piece_text [] events begins text = cc
 piece_text (first ∷ []) events begins text = cc
 piece_text (first ∷ second ∷ atoms) events begins text =
     let all = first ∷ second ∷ atoms in
-    of_rows (UnitText all events) (number piece) piece_rows all events pieces_have (
+    of_rows (UnitText all events) (number Part.PIECE) piece_rows all events pieces_have (
       (λ t. absurd (semicolon_none first second atoms events t)),
       (
         (λ t. elim (or_cases (is_word first) ((first == mark_atom Mark.Hash) && is_word second) begins) [
-          | inl is ↦ absurd (no_word t (sign_outside (directive ∷ [])) first (second ∷ atoms) refl is)
+          | inl is ↦ absurd (no_word t (sign_outside (Part.DIRECTIVE ∷ [])) first (second ∷ atoms) refl is)
           | inr both ↦ with_sign first second atoms events (and_parts (first == mark_atom Mark.Hash) (is_word second) both).1 t
         ]),
         (

@@ -65,16 +65,14 @@ directives_are_trees limits seen events text begins are_seen few none =
     let late : List (Event Action) = Did Action.EndDirective ∷ Took u.atom ∷ [] in
     let again = subst (λ x. AreSeen (atoms_of x) (tokens_of x)) (sym u.same) are_seen in
     let count : length u.body + 1 ≡ length seen = sym (length-append u.body (u.last ∷ [])) ∙ ap length u.same in
-    let all =
-    take_front Action.EndDirective u.atom u.acts u.body u.last
+    let all = take_front Action.EndDirective u.atom u.acts u.body u.last
     (subst (λ l. TakeAll l (u.body ++ u.last ∷ [])) (sym u.are)
     (subst (λ l. TakeAll events l) (sym u.same) (texts_take_all d.text seen refl))) in
     let is_semicolon = subst (λ c. has (grammar.atoms_of c) u.last.atom ≡ true) (eqb-true u.class 0 u.closes) u.is in
     let plain = opens_nothing u.last is_semicolon (last_seen u.body u.last again) in
     let r = u.going no_unit (seen_front u.body u.last again) (omega arith) (omega (arith, few, count)) in
     let needed = λ (kind : Kind). subst (λ es. needs_in kind u.acts ≤ needs_in kind es) u.are (front_needs kind u.acts late) in
-    let room =
-    little_room limits r.parts no_unit (record {
+    let room = little_room limits r.parts no_unit (record {
       on = refl;
       line = λ e. none_needed (needs Places r.parts) (needs_in Places u.acts) (needs_in Places events) (r.weighs Places) (needed Places)
           d.places e;
@@ -86,8 +84,7 @@ directives_are_trees limits seen events text begins are_seen few none =
       tree = record { unit = r.parts; semicolon = u.last };
       same = ap (λ l. l ++ u.last ∷ []) r.same ∙ u.same;
       written = r.written;
-      does = λ context w.
-          ap piece_done ((texts_do_their_actions limits).act 1 seen events text none context (piece_begun w))
+      does = λ context w. ap piece_done ((texts_do_their_actions limits).act 1 seen events text none context (piece_begun w))
           ∙ (ap (λ l. piece_done (run limits context (happenings_of events l) (piece_begun w))) (sym u.same)
           ∙ (ap (λ es. piece_done (run limits context (happenings_of es (u.body ++ u.last ∷ [])) (piece_begun w))) (sym u.are)
           ∙ (ap (λ hs. piece_done (run limits context hs (piece_begun w))) (happenings-append u.acts late u.body u.last [] all)

@@ -198,8 +198,7 @@ doubted_expression limits front tokens rest early steps late d on u are_seen beg
     let all = tokens_of front ++ tokens_of tokens in
     let all_are : tokens_of (front ++ tokens) ≡ all = map-append (λ (s : Seen). s.token) front tokens in
     let joined : (front ++ tokens) ++ rest ≡ front ++ (tokens ++ rest) = append_assoc front tokens rest in
-    let parts =
-    seen_parts (front ++ tokens) rest (subst (λ l. AreSeen (atoms_of l) (tokens_of l)) (sym joined) are_seen) in
+    let parts = seen_parts (front ++ tokens) rest (subst (λ l. AreSeen (atoms_of l) (tokens_of l)) (sym joined) are_seen) in
     let count = tokens_count (front ++ tokens) in
     let all_count = ap length (sym all_are) ∙ count in
     let seen_count = ap length (sym joined) ∙ length-append (front ++ tokens) rest in
@@ -207,19 +206,16 @@ doubted_expression limits front tokens rest early steps late d on u are_seen beg
     let behind_count = length-append u.tokens all in
     let v = d.valued (maybe u) parts.0 refl begun (omega (arith, few, count, seen_count, taken_count)) in
     let reads = valued_reads u front tokens early steps d v in
-    let more =
-    on (with_value all v.value u) parts.1 (omega (arith, begun, all_count, behind_count))
+    let more = on (with_value all v.value u) parts.1 (omega (arith, begun, all_count, behind_count))
     (omega (arith, few, seen_count, all_count, behind_count)) in
     record {
       parts = Doubtful d.level front tokens v.value ∷ more.parts;
       same = ap (λ l. (front ++ tokens) ++ l) more.same ∙ joined;
       quiet = (
         refl,
-        steps_quiet early (Did Action.OuterSure ∷ (steps ++ late)) d.only_early
-            (refl, steps_quiet steps late d.only_steps more.quiet),
+        steps_quiet early (Did Action.OuterSure ∷ (steps ++ late)) d.only_early (refl, steps_quiet steps late d.only_steps more.quiet),
       );
-      weighs = λ kind.
-          steps_need kind early (Did Action.OuterSure ∷ (steps ++ late)) (needs kind more.parts) d.only_early
+      weighs = λ kind. steps_need kind early (Did Action.OuterSure ∷ (steps ++ late)) (needs kind more.parts) d.only_early
           (steps_need kind steps late (needs kind more.parts) d.only_steps (more.weighs kind));
       written = (v.written, more.written);
       does = λ context next w none room.

@@ -7,7 +7,7 @@ use Rattle.inf_settings.specs.Bounds.{Limits}
 use Rattle.inf_machine.specs.declared.symbols.Symbol.{Symbol}
 use Rattle.inf_machine.specs.Grammar.{Event, IsOneOf, IsText, Row, first, later}
 use Rattle.inf_syntax.specs.declared.actions.Action.{Action}
-use Rattle.inf_syntax.specs.Parts.{ !begin, !deeper, !maybe_deeper, first_case, statement, switch_item, top_item}
+use Rattle.inf_syntax.specs.declared.parts.names.TheConstants as Part
 use Rattle.inf_grammar.specs.Language.{grammar}
 use Rattle.inf_statement_laws.specs.Readings.{Seen}
 use Rattle.inf_statement_laws.proofs.Rules.{number}
@@ -20,15 +20,15 @@ use Rattle.inf_trees.proofs.UnitWalks.{OfCase, OfStatement, bind, declared, from
 
 -- The ways in which a case begins: with a unit, behind the unit before, or with the word of a statement
 pub data CaseStart : List (Symbol Action) → Type 0 where
-  Begun : CaseStart (!begin ∷ [])
+  Begun : CaseStart (Part.DO_BEGIN ∷ [])
   Directly : CaseStart []
   TopWord : {class : ℕ} → CaseStart (Symbol.Token class ∷ [])
-  SwitchWord : {class : ℕ} → CaseStart (!maybe_deeper ∷ Symbol.Token class ∷ [])
+  SwitchWord : {class : ℕ} → CaseStart (Part.DO_MAYBE_DEEPER ∷ Symbol.Token class ∷ [])
 
 -- A statement, or where `cases` says so a case
 pub data ItemText (before : List (Symbol Action)) (atoms : List ℕ) (events : List (Event Action)) : (cases : Bool) → Type 0 where
   AUnit : {cases : Bool} (symbols : List (Symbol Action)) → Typed declared Action.EndStatement Free symbols Ended → is_small symbols ≡ true
-      → case_first events ≡ false → IsText grammar (!begin ∷ symbols) atoms events → ItemText before atoms events cases
+      → case_first events ≡ false → IsText grammar (Part.DO_BEGIN ∷ symbols) atoms events → ItemText before atoms events cases
   ABlock : {cases : Bool} → IsText grammar block atoms events → ItemText before atoms events cases
   Holds : {cases : Bool} (symbols : List (Symbol Action)) → IsOneOf symbols (holding before) → IsText grammar symbols atoms events
       → ItemText before atoms events cases
@@ -79,7 +79,7 @@ record Started (parts : List (Symbol Action)) : Type 0 where
 abbrev started : (parts : List (Symbol Action)) → Started parts
 started (Symbol.Token class ∷ symbols) = record { start = Symbol.Token class ∷ []; symbols = symbols; same = refl; is = TopWord }
 started (Symbol.Act Action.MaybeDeeper ∷ Symbol.Token class ∷ symbols) =
-    record { start = !maybe_deeper ∷ Symbol.Token class ∷ []; symbols = symbols; same = refl; is = SwitchWord }
+    record { start = Part.DO_MAYBE_DEEPER ∷ Symbol.Token class ∷ []; symbols = symbols; same = refl; is = SwitchWord }
 started parts = record { start = []; symbols = parts; same = refl; is = Directly }
 
 -- How a row is sorted
@@ -114,15 +114,15 @@ module _ (limits : Limits) (before : List (Symbol Action)) (cases : Bool) (seen 
 
   -- a unit that ends as what the first of its ends says
   unit_or_case : (symbols : List (Symbol Action)) → is_small symbols ≡ true → Typed declared Action.EndStatement Free symbols Ended
-      → Typed declared Action.EndCase Free symbols Ended → true ≡ cases → Sorted (!begin ∷ symbols)
+      → Typed declared Action.EndCase Free symbols Ended → true ≡ cases → Sorted (Part.DO_BEGIN ∷ symbols)
   unit_or_case symbols small one other all text = by_kind (case_first events) refl
     where
       by_kind : (b : Bool) → case_first events ≡ b → ItemText before (atoms_of seen) events cases
-      by_kind true is = subst (λ c. ItemText before (atoms_of seen) events c) all (ACase (!begin ∷ []) symbols Begun other is text)
+      by_kind true is = subst (λ c. ItemText before (atoms_of seen) events c) all (ACase (Part.DO_BEGIN ∷ []) symbols Begun other is text)
       by_kind false is = AUnit symbols one small is text
 
   only_unit : (symbols : List (Symbol Action)) → is_small symbols ≡ true → Typed declared Action.EndStatement Free symbols Ended
-      → Typed declared Action.EndCase Free symbols Never → Sorted (!begin ∷ symbols)
+      → Typed declared Action.EndCase Free symbols Never → Sorted (Part.DO_BEGIN ∷ symbols)
   only_unit symbols small one none text = by_kind (case_first events) refl
     where
       by_kind : (b : Bool) → case_first events ≡ b → ItemText before (atoms_of seen) events cases
@@ -204,25 +204,26 @@ abbrev switch_kinds : List RowKind
 switch_kinds = marks ∷ times 6 (Itself AsEither) (times 6 word_or_value (times 9 (Itself AsEither) (Itself AsCase ∷ [])))
 
 module _ (limits : Limits) (seen : List Seen) (events : List (Event Action)) where
-  pub statement_text : IsText grammar (statement ∷ []) (atoms_of seen) events → ItemText (!deeper ∷ []) (atoms_of seen) events false
+  pub statement_text : IsText grammar (Part.STATEMENT ∷ []) (atoms_of seen) events →
+      ItemText (Part.DO_DEEPER ∷ []) (atoms_of seen) events false
   unfolding grammar declared of_statements is_list_atom
-  statement_text text =
-      of_rule (number statement) text
-      (from_some (sorted_rule limits (!deeper ∷ []) false seen events statement_kinds (number statement)) refl)
+  statement_text text = of_rule (number Part.STATEMENT) text
+      (from_some (sorted_rule limits (Part.DO_DEEPER ∷ []) false seen events statement_kinds (number Part.STATEMENT)) refl)
 
-  pub top_item_text : IsText grammar (top_item ∷ []) (atoms_of seen) events → ItemText [] (atoms_of seen) events true
+  pub top_item_text : IsText grammar (Part.TOP_ITEM ∷ []) (atoms_of seen) events → ItemText [] (atoms_of seen) events true
   unfolding grammar declared of_statements is_list_atom
-  top_item_text text = of_rule (number top_item) text (from_some (sorted_rule limits [] true seen events top_kinds (number top_item)) refl)
+  top_item_text text =
+      of_rule (number Part.TOP_ITEM) text (from_some (sorted_rule limits [] true seen events top_kinds (number Part.TOP_ITEM)) refl)
 
-  pub switch_item_text : IsText grammar (switch_item ∷ []) (atoms_of seen) events
-      → ItemText (!maybe_deeper ∷ []) (atoms_of seen) events true
+  pub switch_item_text : IsText grammar (Part.SWITCH_ITEM ∷ []) (atoms_of seen) events
+      → ItemText (Part.DO_MAYBE_DEEPER ∷ []) (atoms_of seen) events true
   unfolding grammar declared of_statements is_list_atom
-  switch_item_text text =
-      of_rule (number switch_item) text
-      (from_some (sorted_rule limits (!maybe_deeper ∷ []) true seen events switch_kinds (number switch_item)) refl)
+  switch_item_text text = of_rule (number Part.SWITCH_ITEM) text
+      (from_some (sorted_rule limits (Part.DO_MAYBE_DEEPER ∷ []) true seen events switch_kinds (number Part.SWITCH_ITEM)) refl)
 
-  pub first_case_text : IsText grammar (first_case ∷ []) (atoms_of seen) events → ItemText (!maybe_deeper ∷ []) (atoms_of seen) events true
+  pub first_case_text : IsText grammar (Part.FIRST_CASE ∷ []) (atoms_of seen) events
+      → ItemText (Part.DO_MAYBE_DEEPER ∷ []) (atoms_of seen) events true
   unfolding grammar declared of_statements is_list_atom
-  first_case_text text =
-      of_rule (number first_case) text
-      (from_some (sorted_rule limits (!maybe_deeper ∷ []) true seen events (times 2 (Itself AsCase) []) (number first_case)) refl)
+  first_case_text text = of_rule (number Part.FIRST_CASE) text
+      (from_some (sorted_rule limits (Part.DO_MAYBE_DEEPER ∷ []) true seen events (times 2 (Itself AsCase) []) (number Part.FIRST_CASE))
+      refl)

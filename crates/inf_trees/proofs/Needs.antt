@@ -1,14 +1,14 @@
 -- The needs of the parts of a unit: bytes for what is printed or given, and places for operands. They are no more than those of its events,
 -- and where they are little there is room for the parts.
-use Rattle.std.proofs.Common.{◌≡◌, ℕ, zero, suc, ◌+◌, ◌≤◌, List, [], ◌∷◌, ◌++◌, Bool, true, false, ◌&&◌, not, Option, Some, None, refl}
-use Rattle.std.proofs.Common.{sym, ◌∙◌, ap, subst, append_assoc, append-nil, arith, is_some, length, nat_lt}
+use Rattle.std.proofs.Common.{◌≡◌, ℕ, zero, suc, ◌≤◌, List, [], ◌∷◌, ◌++◌, Bool, true, false, ◌&&◌, not, Option, Some, None, refl}
+use Rattle.std.proofs.Common.{sym, ◌∙◌, ap, subst, append_assoc, append-nil, arith, length, nat_lt}
 use Rattle.std.proofs.lemmas.Bool.{and_from, cond-false, le-ltb}
 use Rattle.std.proofs.lemmas.List.{map-append}
 use Rattle.inf_scanner.specs.declared.tokens.Mark.{Mark}
 use Rattle.inf_settings.specs.{Bounds.Limits, declared.setting.Setting.Setting}
 use Rattle.inf_machine.specs.Grammar.{Did, Event, Took}
 use Rattle.inf_syntax.specs.declared.actions.Action.{Action}
-use Rattle.inf_unit.specs.{Roles.role_of, Steps.step_in, Tokens.SourceToken, declared.roles.Note.Note, declared.roles.Role.Role}
+use Rattle.inf_unit.specs.{Roles.role_of, Tokens.SourceToken, declared.roles.Note.Note, declared.roles.Role.Role}
 use Rattle.inf_unit.specs.{declared.steps.GatherStep.GatherStep}
 use Rattle.inf_unit.specs.Units.{Unit as UnitAtHand, action_gathered, depth_behind, is_assembly, is_full, is_some_mark, kind_at, noted}
 use Rattle.inf_unit.specs.Units.{stepped, taken}
@@ -96,10 +96,6 @@ counted_grows (Some Operand) Bytes m n less = less
 counted_grows (Some Operand) Places m n less = omega (arith, less)
 counted_grows (Some Much) kind m n less = omega (arith, less)
 
-step_need : (r : Role) → is_some (step_in r) ≡ true → role_need r ≡ None
-step_need (Role.Gather s) is = refl
-step_need _ is = cc
-
 -- Steps need nothing.
 pub steps_need : (kind : Kind) (steps late : List (Event Action)) (n : ℕ) → AllSteps steps → n ≤ needs_in kind late
     → n ≤ needs_in kind (steps ++ late)
@@ -153,9 +149,7 @@ behind_tokens : (u v : UnitAtHand) (seen : List Seen) (parts : List Part) → v.
     → needs Bytes parts ≤ 1 → (1 ≤ needs Bytes parts → u.code ≡ 0) → IsLittle v parts
 behind_tokens u v seen parts tokens begun code on line once first = record {
   on = on;
-  line = λ e.
-      subst (λ n. NoLine (v.tokens ++ tokens_of (all_seen parts)) n) (sym begun)
-      (subst (λ l. NoLine l u.begun)
+  line = λ e. subst (λ n. NoLine (v.tokens ++ tokens_of (all_seen parts)) n) (sym begun) (subst (λ l. NoLine l u.begun)
       (ap (λ l. u.tokens ++ l) (map-append (λ (s : Seen). s.token) seen (all_seen parts))
       ∙ (sym (append_assoc u.tokens (tokens_of seen) (tokens_of (all_seen parts)))
       ∙ ap (λ l. l ++ tokens_of (all_seen parts)) (sym tokens))) (line e));
@@ -188,16 +182,14 @@ module _ (limits : Limits) (u : UnitAtHand) (parts : List Part) where
       → (1 ≤ needs Places parts → NoLine (u.tokens ++ tokens_of (all_seen parts)) u.begun) → suc (needs Bytes parts) ≤ 1 → IsLittle v parts
   last_note v tokens begun on line once = record {
     on = on;
-    line = λ e.
-        subst (λ n. NoLine (v.tokens ++ tokens_of (all_seen parts)) n) (sym begun)
+    line = λ e. subst (λ n. NoLine (v.tokens ++ tokens_of (all_seen parts)) n) (sym begun)
         (subst (λ l. NoLine (l ++ tokens_of (all_seen parts)) u.begun) (sym tokens) (line e));
     once = omega (arith, once);
     first = λ e. no_more v.code (needs Bytes parts) once e;
   }
 
   bytes_left : u.code ≡ 0 → not (nat_lt (limits Setting.Code) u.code) ≡ true
-  bytes_left none =
-      ap (λ n. not (nat_lt (limits Setting.Code) n)) none ∙ ap not (le-ltb (limits Setting.Code) 0 (omega arith))
+  bytes_left none = ap (λ n. not (nat_lt (limits Setting.Code) n)) none ∙ ap not (le-ltb (limits Setting.Code) 0 (omega arith))
 
   one_at_least : (n : ℕ) → 1 ≤ suc n
   one_at_least n = omega arith
@@ -221,24 +213,19 @@ module _ (limits : Limits) (u : UnitAtHand) (parts : List Part) where
       and_from (not (is_full u)) (have_room limits (noted Note.OuterEnd u) parts)
       (place_left (nat_lt 64 (length u.gathering.firsts)) (line_in_front u.tokens (tokens_of (all_seen parts)) u.begun line))
       (rest (behind_note (noted Note.OuterEnd u) refl refl refl little.on (λ e. line) little.once little.first))
-  note_room Note.PrintText little rest =
-      and_from (has_room limits Note.PrintText u) (have_room limits (noted Note.PrintText u) parts)
+  note_room Note.PrintText little rest = and_from (has_room limits Note.PrintText u) (have_room limits (noted Note.PrintText u) parts)
       (bytes_left (little.first (one_at_least (needs Bytes parts))))
       (rest (last_note (noted Note.PrintText u) refl refl little.on little.line little.once))
-  note_room Note.PrintValue little rest =
-      and_from (has_room limits Note.PrintValue u) (have_room limits (noted Note.PrintValue u) parts)
+  note_room Note.PrintValue little rest = and_from (has_room limits Note.PrintValue u) (have_room limits (noted Note.PrintValue u) parts)
       (bytes_left (little.first (one_at_least (needs Bytes parts))))
       (rest (last_note (noted Note.PrintValue u) refl refl little.on little.line little.once))
-  note_room Note.PrintRuled little rest =
-      and_from (has_room limits Note.PrintRuled u) (have_room limits (noted Note.PrintRuled u) parts)
+  note_room Note.PrintRuled little rest = and_from (has_room limits Note.PrintRuled u) (have_room limits (noted Note.PrintRuled u) parts)
       (bytes_left (little.first (one_at_least (needs Bytes parts))))
       (rest (last_note (noted Note.PrintRuled u) refl refl little.on little.line little.once))
-  note_room Note.Set little rest =
-      and_from (has_room limits Note.Set u) (have_room limits (noted Note.Set u) parts)
+  note_room Note.Set little rest = and_from (has_room limits Note.Set u) (have_room limits (noted Note.Set u) parts)
       (bytes_left (little.first (one_at_least (needs Bytes parts))))
       (rest (last_note (noted Note.Set u) refl refl little.on little.line little.once))
-  note_room Note.Clear little rest =
-      and_from (has_room limits Note.Clear u) (have_room limits (noted Note.Clear u) parts)
+  note_room Note.Clear little rest = and_from (has_room limits Note.Clear u) (have_room limits (noted Note.Clear u) parts)
       (bytes_left (little.first (one_at_least (needs Bytes parts))))
       (rest (last_note (noted Note.Clear u) refl refl little.on little.line little.once))
   note_room Note.Default little rest = rest (last_note (noted Note.Default u) refl refl little.on little.line little.once)

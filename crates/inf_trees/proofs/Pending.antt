@@ -4,7 +4,8 @@ use Rattle.std.proofs.lemmas.Bool.{and_parts}
 use Rattle.std.proofs.lemmas.List.{map-append}
 use Rattle.inf_machine.specs.declared.symbols.Symbol.{Symbol}
 use Rattle.inf_machine.specs.Grammar.{Did, Event, IsText, Took, action, has, here, token}
-use Rattle.inf_syntax.specs.{Parts.!outer_sure, declared.actions.Action.Action}
+use Rattle.inf_syntax.specs.{declared.actions.Action.Action}
+use Rattle.inf_syntax.specs.declared.parts.names.TheConstants as Part
 use Rattle.inf_grammar.specs.Language.{grammar}
 use Rattle.inf_unit.specs.Steps.{step_of}
 use Rattle.inf_statement_laws.specs.Readings.{Seen}
@@ -94,7 +95,7 @@ pub data Opened : Bool → List Item → List Seen → List (Event Action) → T
   Later : {items : List Item} {tokens : List Seen} {steps : List (Event Action)} → Consumed items tokens steps
       → Opened false items tokens steps
   Sure : {fronts more : List (Symbol Action)} {items : List Item} (front tokens : List Seen) (early steps : List (Event Action))
-      → Passes [] (fronts ++ !outer_sure ∷ more) items → Leaves fronts (atoms_of front) early → Leaves more (atoms_of tokens) steps
+      → Passes [] (fronts ++ Part.DO_OUTER_SURE ∷ more) items → Leaves fronts (atoms_of front) early → Leaves more (atoms_of tokens) steps
       → AllSteps early → AllSteps steps
       → Opened false items (front ++ tokens) (Did Action.OuterMaybe ∷ (early ++ Did Action.OuterSure ∷ steps))
   Ruled : {items : List Item} {tokens : List Seen} {steps : List (Event Action)} (ends : Bool) (bracket name closing : Seen)
@@ -112,7 +113,7 @@ module _ {x : Symbol Action} {items now : List Item} (p : Passes items (x ∷ []
       subst (λ k. Opened false now k ((Did Action.OuterMaybe ∷ (early ++ all)) ++ events)) (sym (append_assoc front tokens seen))
       (subst (λ k. Opened false now (front ++ (tokens ++ seen)) (Did Action.OuterMaybe ∷ k)) (sym (append_assoc early all events))
       (Sure front (tokens ++ seen) early (steps ++ events)
-      (subst (λ k. Passes [] k now) (append_assoc fronts (!outer_sure ∷ more) (x ∷ [])) (joined q p)) l
+      (subst (λ k. Passes [] k now) (append_assoc fronts (Part.DO_OUTER_SURE ∷ more) (x ∷ [])) (joined q p)) l
       (leaves_of tokens seen m leaves) a (steps_behind steps events b only)))
   opened_on (Ruled true bracket name closing one two three c) =
       Ruled true bracket name closing one two three (consumed_on p seen events leaves only c)
@@ -124,8 +125,7 @@ pub opened_wide : {ruled : Bool} {items wide : List Item} {seen : List Seen} {ev
 opened_wide w (First c) = First (record { symbols = c.symbols; passes = widened c.passes w; leaves = c.leaves; only = c.only })
 opened_wide w (Later c) = Later (record { symbols = c.symbols; passes = widened c.passes w; leaves = c.leaves; only = c.only })
 opened_wide w (Sure front tokens early steps q l m a b) = Sure front tokens early steps (widened q w) l m a b
-opened_wide w (Ruled ends bracket name closing one two three c) =
-    Ruled ends bracket name closing one two three
+opened_wide w (Ruled ends bracket name closing one two three c) = Ruled ends bracket name closing one two three
     (record { symbols = c.symbols; passes = widened c.passes w; leaves = c.leaves; only = c.only })
 
 -- A state with the tokens and events of what is open

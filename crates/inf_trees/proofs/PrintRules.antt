@@ -57,8 +57,7 @@ not_alone u bracket name =
     ap (λ b. b && is_assembly (named u bracket name))
     (ne_eqb (length u.tokens) at (λ same. omega (arith, same, first_count, second_count)))
 
-gathered_open : (u : UnitAtHand) (bracket name : Seen)
-    → leaf_gathered (record (named u bracket name) { outer = Some (length u.tokens) })
+gathered_open : (u : UnitAtHand) (bracket name : Seen) → leaf_gathered (record (named u bracket name) { outer = Some (length u.tokens) })
     ≡ record (gathered u bracket name) { outer = Some (length u.tokens) }
 gathered_open u bracket name =
     let v = named u bracket name in
@@ -119,8 +118,7 @@ rule_runs true limits context next u bracket name closing one two three seen mor
 rule_runs false limits context next u bracket name closing one two three seen more w room none =
     let last = happenings_before next (Did Action.Rule ∷ more) seen in
     let behind_name : List Happening = Acts (plainly_at closing.token.place) Action.Name ∷ Takes closing.token closing.behind ∷ last in
-    let behind_bracket : List Happening =
-    Acts (plainly_at name.token.place) Action.Bracket ∷ Takes name.token name.behind ∷ behind_name in
+    let behind_bracket : List Happening = Acts (plainly_at name.token.place) Action.Bracket ∷ Takes name.token name.behind ∷ behind_name in
     let outer = Some (length u.tokens) in
     let x = maybe u in
     let y = record (bracketed u bracket) { outer = outer } in
@@ -175,8 +173,7 @@ ruled_value ends limits bracket name closing one two three tokens rest steps lat
     let v = with_value (tokens_of tokens) g.value r in
     let all_count = length-append r.tokens (tokens_of tokens) in
     let printed = noted Note.PrintRuled v in
-    let more =
-    noted_goes limits Action.PrintRule Note.PrintRuled v printed rest late refl refl refl
+    let more = noted_goes limits Action.PrintRule Note.PrintRuled v printed rest late refl refl refl
     (λ context place w. rule_acts limits context place (ready v) w)
     (on printed parts.1 (omega (arith, begun, rule_count, all_count, count))
     (omega (arith, few, seen_count, rule_count, all_count, count))) in
@@ -190,12 +187,10 @@ ruled_value ends limits bracket name closing one two three tokens rest steps lat
           (steps_need kind steps (Did Action.PrintRule ∷ late) (needs kind more.parts) g.only (more.weighs kind));
       written = (g.written, more.written);
       does = λ context next w none room.
-          let both =
-          and_parts (has_room limits Note.OuterEnd (taken bracket.token (without_outer (ready u))))
+          let both = and_parts (has_room limits Note.OuterEnd (taken bracket.token (without_outer (ready u))))
           (have_room limits v more.parts) room in
           let w3 = told context u bracket name closing w in
-          let none3 : w3.opening ≡ None =
-          tokens_opening context (without_outer (ready u)) (bracket ∷ name ∷ closing ∷ []) w ∙ none in
+          let none3 : w3.opening ≡ None = tokens_opening context (without_outer (ready u)) (bracket ∷ name ∷ closing ∷ []) w ∙ none in
           rule_runs ends limits context next u bracket name closing one two three (tokens ++ rest)
           (Did Action.Outer ∷ (steps ++ Did Action.PrintRule ∷ late)) w both.0 none
           ∙ (value_read ends limits context next u bracket name closing tokens rest steps (Did Action.PrintRule ∷ late) g.value w3 g.reads

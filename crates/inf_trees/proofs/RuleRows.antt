@@ -70,8 +70,7 @@ rows_pass false test rows is all = cc
 
 pub passes : (rules : ℕ → Bool) (test : List (Symbol Action) → Bool) → agree_below (keeps rules test) (λ rule. true) 256 ≡ true
     → (rule : ℕ) → rules rule ≡ true → (r : Row Action) → IsOneOf r (grammar.rows_of rule) → test r.parts ≡ true
-passes rules test all rule is r m =
-    row_passes test (grammar.rows_of rule) r m (rows_pass (rules rule) test (grammar.rows_of rule) is kept)
+passes rules test all rule is r m = row_passes test (grammar.rows_of rule) r m (rows_pass (rules rule) test (grammar.rows_of rule) is kept)
   where
     kept : keeps rules test rule ≡ true
     kept =
@@ -112,8 +111,7 @@ opened (token {class} {atom} {atoms = more} {events = late} h leads) none (x ∷
     record {
       way = on.way;
       is_row = on.is_row;
-      text =
-          subst (λ y. IsText grammar (y ∷ (xs ++ (on.way.parts ++ ys))) (atom ∷ more) (Took atom ∷ late)) (same_head are)
+      text = subst (λ y. IsText grammar (y ∷ (xs ++ (on.way.parts ++ ys))) (atom ∷ more) (Took atom ∷ late)) (same_head are)
           (token h on.text);
     }
 opened (action leads) none [] rule ys are = cc
@@ -127,18 +125,15 @@ opened (action {a} {atoms = more} {events = late} leads) none (x ∷ xs) rule ys
 opened {left = left} {atoms} {events} (row {rule = other} {r} {symbols} is_row free leads) none [] rule ys are = record {
   way = r;
   is_row = subst (λ n. IsOneOf r (grammar.rows_of n)) (same_rule (same_head are)) is_row;
-  text =
-      subst (λ l. IsText grammar (r.parts ++ l) atoms events) (same_tail are)
+  text = subst (λ l. IsText grammar (r.parts ++ l) atoms events) (same_tail are)
       (subst (λ l. Leads grammar (r.parts ++ symbols) atoms events l) none leads);
 }
 opened {atoms = atoms} {events = events} (row {rule = other} {r} {symbols} is_row free leads) none (x ∷ xs) rule ys are =
-    let on =
-    opened leads none (r.parts ++ xs) rule ys (ap (λ l. r.parts ++ l) (same_tail are) ∙ sym
+    let on = opened leads none (r.parts ++ xs) rule ys (ap (λ l. r.parts ++ l) (same_tail are) ∙ sym
     (append_assoc r.parts xs (Symbol.Rule rule ∷ ys))) in
     record {
       way = on.way;
       is_row = on.is_row;
-      text =
-          subst (λ y. IsText grammar (y ∷ (xs ++ (on.way.parts ++ ys))) atoms events) (same_head are)
+      text = subst (λ y. IsText grammar (y ∷ (xs ++ (on.way.parts ++ ys))) atoms events) (same_head are)
           (row is_row free (subst (λ l. IsText grammar l atoms events) (append_assoc r.parts xs (on.way.parts ++ ys)) on.text));
     }

@@ -37,8 +37,7 @@ opens_nothing s h is =
 -- Behind a unit that is over it ends that, and changes nothing else.
 pub over_taken : (context : Context) (s : Seen) (u : UnitAtHand) (w : Compilation) → opens s.token.kind ≡ false → w.unit ≡ over true u
     → took context s.token w ≡ record w { unit = over false u }
-over_taken context s u w plain is =
-    took_is_told context s.token w.unit w
+over_taken context s u w plain is = took_is_told context s.token w.unit w
     ∙ (ap (λ x. record (told_at context (taken s.token x) s.token w) { unit = taken s.token x }) is
     ∙ ap (λ (x : Compilation). record x { unit = over false u }) (nothing_told context s.token u.depth w plain))
 

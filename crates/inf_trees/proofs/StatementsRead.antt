@@ -9,7 +9,7 @@ use Rattle.inf_settings.specs.Bounds.{Limits}
 use Rattle.inf_machine.specs.declared.symbols.Symbol.{Symbol}
 use Rattle.inf_machine.specs.Grammar.{Did, Event, IsText, Took, first, has, later}
 use Rattle.inf_syntax.specs.declared.actions.Action.{Action}
-use Rattle.inf_syntax.specs.Parts.{ !begin, !deeper, !outer, expression}
+use Rattle.inf_syntax.specs.declared.parts.names.TheConstants as Part
 use Rattle.inf_grammar.specs.Language.{grammar}
 use Rattle.inf_unit.specs.Tokens.{SourceToken, is_mark}
 use Rattle.inf_unit.specs.Units.{Unit as UnitAtHand, begun, is_some_mark, kind_at, no_unit}
@@ -82,7 +82,7 @@ pub record BegunUnit (limits : Limits) (seen : List Seen) (events : List (Event 
 
 pub begun_unit : (limits : Limits) (symbols : List (Symbol Action)) → Typed declared Action.EndStatement Free symbols Ended
     → is_small symbols ≡ true → (seen : List Seen) (events : List (Event Action)) → case_first events ≡ false
-    → IsText grammar (!begin ∷ symbols) (atoms_of seen) events → BegunUnit limits seen events
+    → IsText grammar (Part.DO_BEGIN ∷ symbols) (atoms_of seen) events → BegunUnit limits seen events
 begun_unit limits symbols typed small seen events kind text =
     let b = act_first Action.Begin symbols seen events text in
     let u = units_typed limits OfStatement b.text refl seen refl typed refl (sym (ap case_first b.are) ∙ kind) [] [] OfFree in
@@ -158,8 +158,7 @@ is_statement limits u seen events p are_seen few =
           let little = p.little plain in
           little_room limits r.parts (begun u) (record {
             on = refl;
-            line = λ e.
-                subst (λ l. NoLine (take 1 u.tokens ++ tokens_of l) (length (take 1 u.tokens))) (sym r.same)
+            line = λ e. subst (λ l. NoLine (take 1 u.tokens ++ tokens_of l) (length (take 1 u.tokens))) (sym r.same)
                 (no_line (take 1 u.tokens) p.tokens (plain_front p.tokens (p.semicolon ∷ []) seen p.same plain));
             once = omega (arith, weighs, little);
             first = λ e. refl;
@@ -186,7 +185,7 @@ by_text limits before u seen events (ACase start symbols is typed kind text) are
 pub statements_are_trees : (limits : Limits) → StatementsAreTrees limits
 statements_are_trees limits = record {
   statements = λ u seen events text are_seen few.
-      by_text limits (!deeper ∷ []) u seen events (statement_text limits seen events text) are_seen few;
+      by_text limits (Part.DO_DEEPER ∷ []) u seen events (statement_text limits seen events text) are_seen few;
   items = λ u seen events text are_seen few. by_text limits [] u seen events (top_item_text limits seen events text) are_seen few;
 }
 
@@ -194,8 +193,8 @@ statements_are_trees limits = record {
 
 pub bracketed_units_are_trees : (limits : Limits) → BracketedUnitsAreTrees limits
 bracketed_units_are_trees limits u seen events text are_seen few =
-    let b = act_first Action.Begin (!outer ∷ expression ∷ []) seen events text in
-    let o = act_first Action.Outer (expression ∷ []) seen b.late b.text in
+    let b = act_first Action.Begin (Part.DO_OUTER ∷ Part.EXPRESSION ∷ []) seen events text in
+    let o = act_first Action.Outer (Part.EXPRESSION ∷ []) seen b.late b.text in
     let before = few_before u.tokens in
     let form = expression_form (atoms_of seen) o.late o.text in
     let all = texts_take_all o.text seen refl in
@@ -204,8 +203,7 @@ bracketed_units_are_trees limits u seen events text are_seen few =
       parts = Value g.level seen g.value ∷ [];
       same = append-nil seen;
       written = (g.written, tt);
-      does = λ context next w none.
-          ap (λ es. run limits context (happenings_before next es seen) (record w { unit = u }))
+      does = λ context next w none. ap (λ es. run limits context (happenings_before next es seen) (record w { unit = u }))
           (b.are ∙ ap (λ x. Did Action.Begin ∷ x) o.are)
           ∙ (note_first limits context next Action.Begin seen (Did Action.Outer ∷ o.late) (record w { unit = u })
           (record w { unit = begun u }) (λ p. refl)

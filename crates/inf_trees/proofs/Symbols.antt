@@ -102,8 +102,7 @@ parts_of xs ys seen events text =
       of_front = subst (λ a. IsText grammar xs a parts.early) (sym l.front_are) parts.of_front;
       of_rest = subst (λ a. IsText grammar ys a parts.late) (sym l.tokens_are) parts.of_rest;
       count = sym (length-append l.front l.tokens) ∙ ap length l.same;
-      happen = λ next.
-          ap (λ x. happenings_before next events x) (sym l.same)
+      happen = λ next. ap (λ x. happenings_before next events x) (sym l.same)
           ∙ (ap (λ es. happenings_before next es (l.front ++ l.tokens)) parts.events_are
           ∙ before-append next parts.early parts.late l.front l.tokens (texts_take_all parts.of_front l.front l.front_are));
     }

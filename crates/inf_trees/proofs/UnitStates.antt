@@ -3,7 +3,8 @@ use Rattle.std.proofs.Common.{◌≡◌, ℕ, List, [], ◌∷◌, ◌++◌, Boo
 use Rattle.std.proofs.Common.{is_some, ◌&&◌}
 use Rattle.std.proofs.lemmas.Bool.{and_parts}
 use Rattle.inf_machine.specs.{Grammar.IsOneOf, Grammar.Row, declared.symbols.Symbol.Symbol}
-use Rattle.inf_syntax.specs.{Parts.!outer_sure, declared.actions.Action.Action}
+use Rattle.inf_syntax.specs.{declared.actions.Action.Action}
+use Rattle.inf_syntax.specs.declared.parts.names.TheConstants as Part
 use Rattle.inf_grammar.specs.Language.{grammar}
 use Rattle.inf_unit.specs.{Roles.role_of, Steps.step_in, Steps.step_of, declared.roles.Role.Role, declared.steps.GatherStep.GatherStep}
 use Rattle.inf_expression_laws.specs.Precedence.{primaries}
@@ -105,7 +106,8 @@ pub data ActMove : State → Action → State → Type 0 where
   Marking : {a : Action} {symbols : List (Symbol Action)} → ActMove (Lead false symbols) a (Lead false (symbols ++ Symbol.Act a ∷ []))
   Begins : ActMove Free Action.Outer (Lead true [])
   MayBegin : ActMove Free Action.OuterMaybe (Lead false [])
-  Known : {symbols : List (Symbol Action)} {items : List Item} → all_steps symbols ≡ true → Passes [] (symbols ++ !outer_sure ∷ []) items
+  Known : {symbols : List (Symbol Action)} {items : List Item} → all_steps symbols ≡ true →
+      Passes [] (symbols ++ Part.DO_OUTER_SURE ∷ []) items
       → ActMove (Lead false symbols) Action.OuterSure (Open false items)
   Printed : {class : ℕ} → ActMove (Lead false (Symbol.Token class ∷ [])) Action.PrintText Free
   ForLine : {class : ℕ} → ActMove (Lead false (Symbol.Token class ∷ [])) Action.AsmText Free

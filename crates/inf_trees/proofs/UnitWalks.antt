@@ -4,7 +4,7 @@ use Rattle.std.proofs.Common.{subst, is_some, inl, inr, if◌then◌else◌, ◌
 use Rattle.std.proofs.lemmas.Bool.{agree_below, agree_below_at, cases_lt, and_parts}
 use Rattle.inf_machine.specs.{Grammar.IsOneOf, Grammar.Row, Grammar.first, Grammar.later, Pieces.all_rows, declared.symbols.Symbol.Symbol}
 use Rattle.inf_syntax.specs.declared.actions.Action.{Action}
-use Rattle.inf_syntax.specs.Parts.{ !outer_sure, give_rest_1, operands_1, print_rest_1, switch_next, top_next, top_values_1, values_1}
+use Rattle.inf_syntax.specs.declared.parts.names.TheConstants as Part
 use Rattle.inf_grammar.specs.{Evaluated.rows_past, Language.grammar}
 use Rattle.inf_unit.specs.Steps.{step_of}
 use Rattle.inf_expression_laws.specs.Precedence.{commas}
@@ -98,13 +98,11 @@ plain_token (Lead true []) class =
     Some (record { at = Lead true []; to = Lead true (Symbol.Token class ∷ []); fits = Same; moves = Leading })
 plain_token (Lead false symbols) class =
     Some (record { at = Lead false symbols; to = Lead false (symbols ++ Symbol.Token class ∷ []); fits = Same; moves = Leading })
-plain_token s class =
-    bind (opened s) (λ o. bind (into (Symbol.Token class) o.1)
+plain_token s class = bind (opened s) (λ o. bind (into (Symbol.Token class) o.1)
     (λ n. Some (record { at = Open o.0 o.1; to = Open o.0 n.0; fits = o.2; moves = Into n.1 })))
 
 abbrev token_step : (e : Action) (s : State) (class : ℕ) → Option (TokenStep s class)
-token_step e s class =
-    or_else (bind (holds (is_joint e class)) (λ j. bind (free s) (λ f.
+token_step e s class = or_else (bind (holds (is_joint e class)) (λ j. bind (free s) (λ f.
     Some (record { at = Free; to = Open false []; fits = f; moves = Joint }))))
     (plain_token s class)
 
@@ -125,18 +123,16 @@ free_step f Action.Comma = Some (record { at = Free; to = Free; fits = f; moves 
 free_step f a = bind (holds (is_note a)) (λ is. Some (record { at = Free; to = Free; fits = f; moves = Notes is }))
 
 abbrev gathering : (s : State) (a : Action) → Option (ActStep s a)
-gathering s a =
-    bind (opened s) (λ o. bind (into (Symbol.Act a) o.1) (λ n. bind (holds (is_some (step_of a)))
+gathering s a = bind (opened s) (λ o. bind (into (Symbol.Act a) o.1) (λ n. bind (holds (is_some (step_of a)))
     (λ is. Some (record { at = Open o.0 o.1; to = Open o.0 n.0; fits = o.2; moves = Gathers n.1 is }))))
 
 abbrev open_step : (s : State) (a : Action) → Option (ActStep s a)
-open_step s a =
-    or_else (gathering s a)
+open_step s a = or_else (gathering s a)
     (or_else (bind (free s) (λ f. free_step f a)) (Some (record { at = Lost; to = Lost; fits = Loses; moves = Misses })))
 
 abbrev known : (symbols : List (Symbol Action)) → Option (ActStep (Lead false symbols) Action.OuterSure)
 known symbols =
-    let all = symbols ++ !outer_sure ∷ [] in
+    let all = symbols ++ Part.DO_OUTER_SURE ∷ [] in
     bind (found (passed all [])) (λ f. bind (holds (all_steps symbols))
     (λ is. Some (record {
       at = Lead false symbols;
@@ -159,13 +155,11 @@ maybe_step (Symbol.Token one ∷ Symbol.Act Action.Bracket ∷ Symbol.Token two 
       fits = Same;
       moves = Rules;
     })
-maybe_step
-    (Symbol.Token one ∷ Symbol.Act Action.Bracket ∷ Symbol.Act Action.OuterEnd ∷ Symbol.Token two ∷ Symbol.Act Action.Name
+maybe_step (Symbol.Token one ∷ Symbol.Act Action.Bracket ∷ Symbol.Act Action.OuterEnd ∷ Symbol.Token two ∷ Symbol.Act Action.Name
     ∷ Symbol.Token three
     ∷ []) Action.Rule =
     Some (record {
-      at = Lead false
-          (Symbol.Token one ∷ Symbol.Act Action.Bracket ∷ Symbol.Act Action.OuterEnd ∷ Symbol.Token two ∷ Symbol.Act Action.Name
+      at = Lead false (Symbol.Token one ∷ Symbol.Act Action.Bracket ∷ Symbol.Act Action.OuterEnd ∷ Symbol.Token two ∷ Symbol.Act Action.Name
           ∷ Symbol.Token three ∷ []);
       to = Ruling true;
       fits = Same;
@@ -210,9 +204,9 @@ is_rule rule (_ ∷ symbols) = is_rule rule symbols
 
 abbrev lists : State → State → State → ℕ → Option (State × State)
 lists items values behind_comma rule =
-    if is_rule rule (print_rest_1 ∷ give_rest_1 ∷ operands_1 ∷ []) then Some (items, items)
-    else if is_rule rule (values_1 ∷ top_values_1 ∷ []) then Some (values, values)
-    else if is_rule rule (switch_next ∷ top_next ∷ []) then Some (behind_comma, Ended)
+    if is_rule rule (Part.PRINT_REST_1 ∷ Part.GIVE_REST_1 ∷ Part.OPERANDS_1 ∷ []) then Some (items, items)
+    else if is_rule rule (Part.VALUES_1 ∷ Part.TOP_VALUES_1 ∷ []) then Some (values, values)
+    else if is_rule rule (Part.SWITCH_NEXT ∷ Part.TOP_NEXT ∷ []) then Some (behind_comma, Ended)
     else None
 
 unfoldable pub declared : Action → ℕ → Option (State × State)
@@ -236,8 +230,7 @@ ended _ _ _ _ _ = None
 abbrev changing : (e : Action) (s : State) (rule : ℕ) (c : Change) → rule_change rule ≡ Some c
     → (symbols : List (Symbol Action)) (t : State)
     → ((next : State) → Option (Typed declared e next symbols t)) → Option (Typed declared e s (Symbol.Rule rule ∷ symbols) t)
-changing e s rule c is symbols t behind =
-    or_else
+changing e s rule c is symbols t behind = or_else
     (bind (opened s) (λ o. bind (found (all_popped c.old o.1)) (λ rest. bind (behind (Open o.0 (c.now ++ rest.0)))
     (λ typed. Some (Changes c rest.0 o.2 is (all_popped_sound c.old o.1 rest.0 rest.1) typed)))))
     (bind (behind Lost) (λ typed. Some (Misread c is typed)))
@@ -257,8 +250,7 @@ walk zero e s symbols t = None
 walk (suc n) e s [] t = bind (fitted s t) (λ f. Some (Done f))
 walk (suc n) e s (Symbol.Token class ∷ symbols) t =
     bind (token_step e s class) (λ m. bind (walk n e m.to symbols t) (λ typed. Some (Takes m.fits m.moves typed)))
-walk (suc n) e s (Symbol.Act a ∷ symbols) t =
-    or_else (ended e a s symbols t)
+walk (suc n) e s (Symbol.Act a ∷ symbols) t = or_else (ended e a s symbols t)
     (or_else (bind (holds (is_other (end_kind a) (end_kind e))) (λ is. Some (Else is)))
     (bind (is_none (end_kind a))
     (λ plain. bind (act_step s a) (λ m. bind (walk n e m.to symbols t) (λ typed. Some (Does m.fits m.moves plain typed))))))
@@ -292,8 +284,7 @@ from_some (Some a) is = a
 
 by_rule : (e : Action) (o : Option (State × State)) (p : State × State) (rows : List (Row Action)) → o ≡ Some p → checked_by e o rows ≡ true
     → (r : Row Action) → IsOneOf r rows → Typed declared e p.0 r.parts p.1
-by_rule e o p rows is all =
-    from_some (each_row (λ parts. Typed declared e p.0 parts p.1) (λ parts. walk 60 e p.0 parts p.1) rows)
+by_rule e o p rows is all = from_some (each_row (λ parts. Typed declared e p.0 parts p.1) (λ parts. walk 60 e p.0 parts p.1) rows)
     (ap (λ x. checked_by e x rows) (sym is) ∙ all)
 
 declared_row : (e : Action) → all_checked e → (rule : ℕ) (p : State × State) → declared e rule ≡ Some p → (r : Row Action)

@@ -112,8 +112,7 @@ noted_goes limits a n u v seen events quiet need is acts on = record {
   parts = Noted n ∷ on.parts;
   same = on.same;
   quiet = (quiet, on.quiet);
-  weighs = λ kind.
-      subst (λ o. counted (note_need n) kind (needs kind on.parts) ≤ counted o kind (needs_in kind events)) (sym need)
+  weighs = λ kind. subst (λ o. counted (note_need n) kind (needs kind on.parts) ≤ counted o kind (needs_in kind events)) (sym need)
       (counted_more (note_need n) kind (needs kind on.parts) (needs_in kind events) (on.weighs kind));
   written = subst (λ x. AreWritten x on.parts) (sym is) on.written;
   does = λ context next w none room.
@@ -133,8 +132,7 @@ named_goes limits u seen events on = record {
   quiet = (refl, on.quiet);
   weighs = on.weighs;
   written = on.written;
-  does = λ context next w none room.
-      note_first limits context next Action.Action seen events (record w { unit = ready u })
+  does = λ context next w none room. note_first limits context next Action.Action seen events (record w { unit = ready u })
       (record w { unit = action_gathered (ready u) }) (λ place. refl)
       ∙ on.does context next w none room;
 }
@@ -175,8 +173,7 @@ set_acts limits context place u w room =
     cond-false (crowds limits u) (value_noted context Note.Set (record w { unit = u })) (record w { unit = noted Note.Set u })
     (not_true (crowds limits u) room)
 
-clear_acts : (limits : Limits) (context : Context) (place : Place) (u : UnitAtHand) (w : Compilation)
-    → has_room limits Note.Clear u ≡ true
+clear_acts : (limits : Limits) (context : Context) (place : Place) (u : UnitAtHand) (w : Compilation) → has_room limits Note.Clear u ≡ true
     → act limits context place Action.Clear (record w { unit = u }) ≡ record w { unit = noted Note.Clear u }
 clear_acts limits context place u w room =
     cond-false (crowds limits u) (value_noted context Note.Clear (record w { unit = u })) (record w { unit = noted Note.Clear u })
@@ -265,8 +262,7 @@ expressed limits tokens rest steps late form on u are_seen begun few =
     let seen_count = length-append tokens rest in
     let all = texts_take_all form.text tokens refl in
     let g = gathers u tokens steps form all parts.0 begun (omega (arith, few, seen_count)) in
-    let more =
-    on (with_value (tokens_of tokens) g.value u) parts.1 (omega (arith, begun, all_count, count))
+    let more = on (with_value (tokens_of tokens) g.value u) parts.1 (omega (arith, begun, all_count, count))
     (omega (arith, few, seen_count, all_count, count)) in
     record {
       parts = Value g.level tokens g.value ∷ more.parts;
@@ -274,8 +270,7 @@ expressed limits tokens rest steps late form on u are_seen begun few =
       quiet = (refl, steps_quiet steps late g.only more.quiet);
       weighs = λ kind. steps_need kind steps late (needs kind more.parts) g.only (more.weighs kind);
       written = (g.written, more.written);
-      does = λ context next w none room.
-          expressed_does limits context next u tokens rest steps late g.value w g.reads g.only all none
+      does = λ context next w none room. expressed_does limits context next u tokens rest steps late g.value w g.reads g.only all none
           ∙ more.does context next (tokens_told context (with_outer (ready u)) tokens w)
           (tokens_opening context (with_outer (ready u)) tokens w ∙ none) room;
     }

@@ -7,7 +7,8 @@ use Rattle.inf_gathering.specs.Gatherings.{Gathering}
 use Rattle.inf_settings.specs.Bounds.{Limits}
 use Rattle.inf_machine.specs.declared.symbols.Symbol.{Symbol}
 use Rattle.inf_machine.specs.Grammar.{Did, Event, IsText, Took, first as the_first}
-use Rattle.inf_syntax.specs.{Parts.expression, declared.actions.Action.Action}
+use Rattle.inf_syntax.specs.{declared.actions.Action.Action}
+use Rattle.inf_syntax.specs.declared.parts.names.TheConstants as Part
 use Rattle.inf_grammar.specs.Language.{grammar}
 use Rattle.inf_unit.specs.Tokens.{SourceToken}
 use Rattle.inf_unit.specs.Units.{Unit as UnitAtHand, acted, depth_behind, long_at, outer_tokens, taken}
@@ -36,8 +37,7 @@ pub before-append : (next : Place) (early late : List (Event Action)) (tokens re
     ≡ happenings_before (place_before rest next) early tokens ++ happenings_before next late rest
 before-append next [] late [] rest all = refl
 before-append next [] late (x ∷ tokens) rest all = absurd all
-before-append next (Did a ∷ early) late [] [] all =
-    ap (λ hs. Acts (plainly_at next) a ∷ hs) (before-append next early late [] [] all)
+before-append next (Did a ∷ early) late [] [] all = ap (λ hs. Acts (plainly_at next) a ∷ hs) (before-append next early late [] [] all)
 before-append next (Did a ∷ early) late [] (s ∷ rest) all =
     ap (λ hs. Acts (plainly_at s.token.place) a ∷ hs) (before-append next early late [] (s ∷ rest) all)
 before-append next (Did a ∷ early) late (x ∷ tokens) rest all =
@@ -139,16 +139,17 @@ pub record HasForm (atoms : List ℕ) (events : List (Event Action)) : Type 0 wh
   pub text : IsText grammar symbols atoms events
   pub steps : AllSteps events
 
-expression_steps : {atoms : List ℕ} {events : List (Event Action)} → IsText grammar (expression ∷ []) atoms events → AllSteps events
+expression_steps : {atoms : List ℕ} {events : List (Event Action)} → IsText grammar (Part.EXPRESSION ∷ []) atoms events → AllSteps events
 unfolding is_rule
 expression_steps text = only_steps text refl
 
 -- the expression of a statement
-pub expression_form : (atoms : List ℕ) (events : List (Event Action)) → IsText grammar (expression ∷ []) atoms events → HasForm atoms events
+pub expression_form : (atoms : List ℕ) (events : List (Event Action)) → IsText grammar (Part.EXPRESSION ∷
+    []) atoms events → HasForm atoms events
 expression_form atoms events text = record {
-  symbols = expression ∷ [];
+  symbols = Part.EXPRESSION ∷ [];
   level = commas;
-  passes = form_passes (expression ∷ []) commas the_first;
+  passes = form_passes (Part.EXPRESSION ∷ []) commas the_first;
   text = text;
   steps = expression_steps text;
 }
@@ -180,8 +181,7 @@ gathers u tokens steps f all are_seen begun few =
     let x = with_outer (ready u) in
     let count = tokens_count tokens in
     let all_count = length-append u.tokens (tokens_of tokens) in
-    let e =
-    passed_are_read f.symbols f.level f.passes (atoms_of tokens) steps f.text x (tokens_of tokens) are_seen refl begun
+    let e = passed_are_read f.symbols f.level f.passes (atoms_of tokens) steps f.text x (tokens_of tokens) are_seen refl begun
     (omega (arith, few, count, all_count)) in
     record {
       level = f.level;

@@ -6,7 +6,8 @@ use Rattle.std.proofs.lemmas.List.{length-append}
 use Rattle.inf_settings.specs.Bounds.{Limits}
 use Rattle.inf_machine.specs.declared.symbols.Symbol.{Symbol}
 use Rattle.inf_machine.specs.Grammar.{Did, Event, IsOneOf, IsText, Leads, Row, Took, action, has, here, row, token}
-use Rattle.inf_syntax.specs.{Parts.!outer_sure, declared.actions.Action.Action}
+use Rattle.inf_syntax.specs.{declared.actions.Action.Action}
+use Rattle.inf_syntax.specs.declared.parts.names.TheConstants as Part
 use Rattle.inf_grammar.specs.Language.{grammar}
 use Rattle.inf_unit.specs.{Opcodes.takes_text, declared.items.Item.Item as UnitItem, declared.roles.Note.Note}
 use Rattle.inf_unit.specs.Units.{Unit as UnitAtHand, bytes_at, depth_behind, last_leaf, leaf_gathered, next_place, noted, with_item}
@@ -74,14 +75,11 @@ module _ (limits : Limits) where
     acts = o.acts ++ q.acts;
     pend = q.pend;
     left = q.left;
-    same =
-        append_assoc o.done q.done q.pend
+    same = append_assoc o.done q.done q.pend
         ∙ (ap (λ l. o.done ++ l) q.same ∙ (sym (append_assoc o.done o.pend others) ∙ ap (λ l. l ++ others) o.same));
-    are =
-        append_assoc o.acts q.acts q.left
+    are = append_assoc o.acts q.acts q.left
         ∙ (ap (λ l. o.acts ++ l) q.are ∙ (sym (append_assoc o.acts o.left more) ∙ ap (λ l. l ++ more) o.are));
-    prefix = λ rest late on.
-        moved limits (sym (append_assoc o.done q.done rest)) (sym (append_assoc o.acts q.acts late))
+    prefix = λ rest late on. moved limits (sym (append_assoc o.done q.done rest)) (sym (append_assoc o.acts q.acts late))
         (o.prefix (q.done ++ rest) (q.acts ++ late) (q.prefix rest late on));
     pending = q.pending;
   }
@@ -89,7 +87,7 @@ module _ (limits : Limits) where
   -- An expression that is whole
 
   doubted : {fronts more : List (Symbol Action)} (level : ℕ) (front tokens : List Seen) (early steps : List (Event Action))
-      → Passes [] (fronts ++ !outer_sure ∷ more) (Whole level ∷ []) → Leaves fronts (atoms_of front) early
+      → Passes [] (fronts ++ Part.DO_OUTER_SURE ∷ more) (Whole level ∷ []) → Leaves fronts (atoms_of front) early
       → Leaves more (atoms_of tokens) steps → AllSteps early → AllSteps steps → IsDoubted front tokens early steps
   doubted {fronts} {more} level front tokens early steps q l m a b = record {
     level = level;
@@ -99,7 +97,7 @@ module _ (limits : Limits) where
     only_steps = b;
     valued = λ u are over begun few.
         let e =
-        passed_are_read (fronts ++ !outer_sure ∷ more) level q (atoms_of (front ++ tokens)) (early ++ Did Action.OuterSure ∷ steps)
+        passed_are_read (fronts ++ Part.DO_OUTER_SURE ∷ more) level q (atoms_of (front ++ tokens)) (early ++ Did Action.OuterSure ∷ steps)
         (leaves_text (leaves_of front tokens l (AnAct m))) u (tokens_of (front ++ tokens)) are over begun few in
         record { value = e.0; written = e.1; gathered = e.2; all = e.3 };
   }
@@ -108,8 +106,7 @@ module _ (limits : Limits) where
       → Prefix limits seen events
   whole (First {tokens = tokens} {steps = steps} c) rest late on = expressed limits tokens rest steps late (has_form c) on
   whole (Later {tokens = tokens} {steps = steps} c) rest late on = further limits tokens rest steps late (has_form c) on
-  whole {level} (Sure front tokens early steps q l m a b) rest late on =
-      moved limits (sym (append_assoc front tokens rest))
+  whole {level} (Sure front tokens early steps q l m a b) rest late on = moved limits (sym (append_assoc front tokens rest))
       (ap (λ k. Did Action.OuterMaybe ∷ k) (sym (append_assoc early (Did Action.OuterSure ∷ steps) late)))
       (doubted_expression limits front tokens rest early steps late (doubted level front tokens early steps q l m a b) on)
 
@@ -213,8 +210,7 @@ module _ (limits : Limits) where
       by_text false x are begun few = on (leaf_gathered (ready x)) are begun few
 
   by_any : {a : Action} → IsAny a → Prefix limits [] (Did a ∷ [])
-  by_any is rest late on u are begun few =
-      note_goes limits is u rest late
+  by_any is rest late on u are begun few = note_goes limits is u rest late
       (λ g items code outer. on (record u { gathering = g; items = items; code = code; outer = outer }) are begun few)
 
   -- the value of a print rule
@@ -222,12 +218,10 @@ module _ (limits : Limits) where
       → Consumed (Whole level ∷ []) tokens steps
       → Prefix limits (bracket ∷ name ∷ closing ∷ tokens)
       (rule_events ends one two three (Did Action.Outer ∷ steps) ++ Did Action.PrintRule ∷ [])
-  by_rule true bracket name closing one two three {tokens = tokens} {steps = steps} c rest late on =
-      moved limits refl
+  by_rule true bracket name closing one two three {tokens = tokens} {steps = steps} c rest late on = moved limits refl
       (ap (λ l. rule_events true one two three (Did Action.Outer ∷ l)) (sym (append_assoc steps (Did Action.PrintRule ∷ []) late)))
       (ruled_value true limits bracket name closing one two three tokens rest steps late (has_form c) on)
-  by_rule false bracket name closing one two three {tokens = tokens} {steps = steps} c rest late on =
-      moved limits refl
+  by_rule false bracket name closing one two three {tokens = tokens} {steps = steps} c rest late on = moved limits refl
       (ap (λ l. rule_events false one two three (Did Action.Outer ∷ l)) (sym (append_assoc steps (Did Action.PrintRule ∷ []) late)))
       (ruled_value false limits bracket name closing one two three tokens rest steps late (has_form c) on)
 
@@ -288,8 +282,7 @@ module _ (limits : Limits) where
         left = [];
         same = o.same;
         are = ap (λ k. Did Action.Outer ∷ (k ++ Did Action.Default ∷ [])) o.are;
-        prefix = λ rest late on.
-            outer_noted limits (o.s ∷ rest) (Took o.atom ∷ Did Action.Default ∷ late)
+        prefix = λ rest late on. outer_noted limits (o.s ∷ rest) (Took o.atom ∷ Did Action.Default ∷ late)
             (alone limits o.s o.atom rest (Did Action.Default ∷ late) (default_noted limits rest late on));
         pending = OfFree;
       }
@@ -305,8 +298,7 @@ module _ (limits : Limits) where
         pending = OfWord;
       }
   act_out Words OfFree = held OfWord
-  act_out Names OfWord =
-      finished [] (Did Action.OuterWord ∷ Did Action.Name ∷ []) (λ rest late on. worded limits rest late on) Same
+  act_out Names OfWord = finished [] (Did Action.OuterWord ∷ Did Action.Name ∷ []) (λ rest late on. worded limits rest late on) Same
   act_out {a = a} (Notes is) OfFree = finished [] (Did a ∷ []) (by_any (any_of a is)) Same
   act_out Ranges OfFree = finished [] (Did Action.To ∷ []) (λ rest late on. range_joined limits rest late on) Same
   act_out Commas OfFree = finished [] (Did Action.Comma ∷ []) (λ rest late on. comma_joined limits rest late on) Same
@@ -357,8 +349,7 @@ module _ (limits : Limits) where
 
   unit_moved : {e : Action} {t : State} {seen others : List Seen} {events more : List (Event Action)} → seen ≡ others → events ≡ more
       → UnitOf e t seen events → UnitOf e t others more
-  unit_moved {e} {t} {seen} {others} {events} {more} same are u =
-      subst (λ l. UnitOf e t l more) same (subst (λ l. UnitOf e t seen l) are u)
+  unit_moved {e} {t} {seen} {others} {events} {more} same are u = subst (λ l. UnitOf e t l more) same (subst (λ l. UnitOf e t seen l) are u)
 
   behind_parts : {e : Action} {s t : State} {seen : List Seen} {events : List (Event Action)} (rest : List Seen)
       (late : List (Event Action))
@@ -370,11 +361,9 @@ module _ (limits : Limits) where
     atom = u.atom;
     class = u.class;
     over = u.over;
-    same =
-        append_assoc o.done u.body (u.last ∷ [])
+    same = append_assoc o.done u.body (u.last ∷ [])
         ∙ (ap (λ l. o.done ++ l) u.same ∙ (sym (append_assoc o.done o.pend rest) ∙ ap (λ l. l ++ rest) o.same));
-    are =
-        append_assoc o.acts u.acts (Did e ∷ Took u.atom ∷ [])
+    are = append_assoc o.acts u.acts (Did e ∷ Took u.atom ∷ [])
         ∙ (ap (λ l. o.acts ++ l) u.are ∙ (sym (append_assoc o.acts o.left late) ∙ ap (λ l. l ++ late) o.are));
     going = o.prefix u.body u.acts u.going;
     closes = u.closes;
@@ -417,8 +406,7 @@ module _ (limits : Limits) {e : Action} {s at next t : State} {before : List See
 
     token_taken : {class : ℕ} (atom : ℕ) (x : Seen) → TokenMove at class next → has (grammar.atoms_of class) x.atom ≡ true → x.atom ≡ atom
         → UnitOf limits e t (before ++ x ∷ seen) (early ++ Took atom ∷ late)
-    token_taken atom x move h same =
-        subst (λ n. UnitOf limits e t (before ++ x ∷ seen) (early ++ Took n ∷ late)) same
+    token_taken atom x move h same = subst (λ n. UnitOf limits e t (before ++ x ∷ seen) (early ++ Took n ∷ late)) same
         (unit_moved limits (append_assoc before (x ∷ []) seen) (append_assoc early (Took x.atom ∷ []) late)
         (behind_outcome (by_fits (fit_out limits f p))))
       where
@@ -430,8 +418,7 @@ module _ (limits : Limits) {e : Action} {s at next t : State} {before : List See
         unit_moved limits (append_assoc before [] seen) (append_assoc early (Did a ∷ []) late) (behind_outcome (by_fits (fit_out limits f p)))
       where
         by_fits : Outcome limits at before early → Outcome limits next (before ++ []) (early ++ Did a ∷ [])
-        by_fits fits =
-            combined limits [] (Did a ∷ []) fits
+        by_fits fits = combined limits [] (Did a ∷ []) fits
             (subst (λ l. Outcome limits next l (fits.left ++ Did a ∷ [])) (sym (append-nil fits.pend)) (act_out limits move fits.pending))
 
 plain_rest : (a : Action) (late : List (Event Action)) (e : Option Bool) → end_kind a ≡ None → Agrees e (case_first (Did a ∷ late))
@@ -471,8 +458,7 @@ act_typed (Else other) = Elsewhere other
 row_typed : {e : Action} → IsEnd e → {s t : State} {rule : ℕ} {symbols : List (Symbol Action)}
     → Typed declared e s (Symbol.Rule rule ∷ symbols) t → (r : Row Action) → IsOneOf r (grammar.rows_of rule)
     → Typed declared e s (r.parts ++ symbols) t
-row_typed end {rule = rule} (Changes c rest f change w typed) r m =
-    fitted_before (fits_then f (Narrow w Same))
+row_typed end {rule = rule} (Changes c rest f change w typed) r m = fitted_before (fits_then f (Narrow w Same))
     (behind (row_opened (below rest (row_passes rule c r change m)) (row_unsure rule c change r m)) refl typed)
 row_typed end {rule = rule} (Misread c change typed) r m =
     fitted_before Loses (behind (row_lost (row_passes rule c r change m) (row_unsure rule c change r m)) refl typed)

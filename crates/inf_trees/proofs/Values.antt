@@ -47,8 +47,7 @@ gathers_further u tokens steps f all are_seen begun few =
     let x = ready u in
     let count = tokens_count tokens in
     let all_count = length-append u.tokens (tokens_of tokens) in
-    let e =
-    passed_are_read f.symbols f.level f.passes (atoms_of tokens) steps f.text x (tokens_of tokens) are_seen refl begun
+    let e = passed_are_read f.symbols f.level f.passes (atoms_of tokens) steps f.text x (tokens_of tokens) are_seen refl begun
     (omega (arith, few, count, all_count)) in
     record {
       level = f.level;
@@ -85,8 +84,7 @@ further limits tokens rest steps late form on u are_seen begun few =
     let seen_count = length-append tokens rest in
     let all = texts_take_all form.text tokens refl in
     let g = gathers_further u tokens steps form all parts.0 begun (omega (arith, few, seen_count)) in
-    let more =
-    on (with_further (tokens_of tokens) g.value u) parts.1 (omega (arith, begun, all_count, count))
+    let more = on (with_further (tokens_of tokens) g.value u) parts.1 (omega (arith, begun, all_count, count))
     (omega (arith, few, seen_count, all_count, count)) in
     record {
       parts = Further g.level tokens g.value ∷ more.parts;
@@ -94,8 +92,7 @@ further limits tokens rest steps late form on u are_seen begun few =
       quiet = steps_quiet steps late g.only more.quiet;
       weighs = λ kind. steps_need kind steps late (needs kind more.parts) g.only (more.weighs kind);
       written = (g.written, more.written);
-      does = λ context next w none room.
-          further_does limits context next u tokens rest steps late g.value w g.reads g.only all none
+      does = λ context next w none room. further_does limits context next u tokens rest steps late g.value w g.reads g.only all none
           ∙ more.does context next (tokens_told context (ready u) tokens w) (tokens_opening context (ready u) tokens w ∙ none) room;
     }
 
@@ -128,8 +125,7 @@ comma_joined limits rest late on u are_seen begun few =
       quiet = (refl, more.quiet);
       weighs = more.weighs;
       written = more.written;
-      does = λ context next w none room.
-          note_first limits context next Action.Comma rest late (record w { unit = ready u })
+      does = λ context next w none room. note_first limits context next Action.Comma rest late (record w { unit = ready u })
           (record w { unit = stepped GatherStep.Comma (ready u) }) (λ place. refl)
           ∙ more.does context next w none room;
     }

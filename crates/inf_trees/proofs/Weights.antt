@@ -7,13 +7,7 @@ use Rattle.inf_machine.specs.{Pieces.all_rows, declared.symbols.Symbol.Symbol}
 use Rattle.inf_machine.specs.Grammar.{Event, IsOneOf, IsText, Leads, Row, action, has, here, row, token}
 use Rattle.inf_machine.proofs.Sets.{has_and}
 use Rattle.inf_syntax.specs.declared.actions.Action.{Action}
-use Rattle.inf_syntax.specs.Parts.{act_3, expression, first_case_2, initial_1, jump_rest, move_rest, of_expression, outer_following_1}
-use Rattle.inf_syntax.specs.Parts.{outer_operator, range, return_rest, statement_1, statement_2, statement_4, statement_end, string_rest}
-use Rattle.inf_syntax.specs.Parts.{style_rest, switch_item_1, switch_item_16, switch_item_18, switch_item_2, switch_item_20}
-use Rattle.inf_syntax.specs.Parts.{switch_item_22, switch_item_24, switch_item_25, switch_item_26, switch_item_3, switch_item_4}
-use Rattle.inf_syntax.specs.Parts.{switch_item_5, switch_item_9, text_more, text_statement, text_statement_1, top_following_1, top_item_1}
-use Rattle.inf_syntax.specs.Parts.{top_item_11, top_item_13, top_item_15, top_item_17, top_item_19, top_item_2, top_item_20, top_item_21}
-use Rattle.inf_syntax.specs.Parts.{top_item_3, top_item_4, whole_directive}
+use Rattle.inf_syntax.specs.declared.parts.names.TheConstants as Part
 use Rattle.inf_grammar.specs.{Evaluated.rows_past, Language.grammar}
 use Rattle.inf_statement_laws.specs.Readings.{Seen}
 use Rattle.inf_statement_laws.proofs.Rules.{number}
@@ -37,7 +31,7 @@ is_in rule (r ∷ ranges) = (not (nat_lt rule r.0) && not (nat_lt r.1 rule)) || 
 
 -- the rules of directives and of expressions, of which no text needs anything
 abbrev directive_rules : List Range
-directive_rules = rules whole_directive initial_1 ∷ rules expression outer_operator ∷ []
+directive_rules = rules Part.WHOLE_DIRECTIVE Part.INITIAL_1 ∷ rules Part.EXPRESSION Part.OUTER_OPERATOR ∷ []
 
 unfoldable pub of_directives : ℕ → ℕ
 of_directives rule = if is_in rule directive_rules then 0 else 2
@@ -45,17 +39,24 @@ of_directives rule = if is_in rule directive_rules then 0 else 2
 -- the rules of statements and cases of which no text needs bytes, and those of which a text needs them once
 abbrev free_rules : List Range
 free_rules =
-    rules expression outer_operator ∷ rules statement_1 statement_2 ∷ rules statement_4 statement_end ∷ rules text_more text_more
-    ∷ rules return_rest jump_rest ∷ rules move_rest of_expression ∷ rules style_rest act_3 ∷ rules top_item_1 top_item_1
-    ∷ rules top_item_3 top_item_4 ∷ rules top_item_11 top_item_11 ∷ rules top_item_13 top_item_15 ∷ rules top_item_17 top_item_19
-    ∷ rules top_item_21 top_following_1 ∷ rules first_case_2 range ∷ rules switch_item_2 switch_item_3 ∷ rules switch_item_5 switch_item_9
-    ∷ rules switch_item_16 switch_item_16 ∷ rules switch_item_18 switch_item_20 ∷ rules switch_item_22 switch_item_24
-    ∷ rules switch_item_26 outer_following_1 ∷ []
+    rules Part.EXPRESSION Part.OUTER_OPERATOR ∷ rules Part.STATEMENT_1 Part.STATEMENT_2 ∷ rules Part.STATEMENT_4 Part.STATEMENT_END ∷
+    rules Part.TEXT_MORE Part.TEXT_MORE
+    ∷ rules Part.RETURN_REST Part.JUMP_REST ∷ rules Part.MOVE_REST Part.OF_EXPRESSION ∷ rules Part.STYLE_REST Part.ACT_3 ∷
+    rules Part.TOP_ITEM_1 Part.TOP_ITEM_1
+    ∷ rules Part.TOP_ITEM_3 Part.TOP_ITEM_4 ∷ rules Part.TOP_ITEM_11 Part.TOP_ITEM_11 ∷ rules Part.TOP_ITEM_13 Part.TOP_ITEM_15 ∷
+    rules Part.TOP_ITEM_17 Part.TOP_ITEM_19
+    ∷ rules Part.TOP_ITEM_21 Part.TOP_FOLLOWING_1 ∷ rules Part.FIRST_CASE_2 Part.RANGE ∷ rules Part.SWITCH_ITEM_2 Part.SWITCH_ITEM_3 ∷
+    rules Part.SWITCH_ITEM_5 Part.SWITCH_ITEM_9
+    ∷ rules Part.SWITCH_ITEM_16 Part.SWITCH_ITEM_16 ∷ rules Part.SWITCH_ITEM_18 Part.SWITCH_ITEM_20 ∷
+    rules Part.SWITCH_ITEM_22 Part.SWITCH_ITEM_24
+    ∷ rules Part.SWITCH_ITEM_26 Part.OUTER_FOLLOWING_1 ∷ []
 
 abbrev single_rules : List Range
 single_rules =
-    rules text_statement text_statement_1 ∷ rules string_rest string_rest ∷ rules top_item_2 top_item_2 ∷ rules top_item_20 top_item_20
-    ∷ rules switch_item_1 switch_item_1 ∷ rules switch_item_4 switch_item_4 ∷ rules switch_item_25 switch_item_25 ∷ []
+    rules Part.TEXT_STATEMENT Part.TEXT_STATEMENT_1 ∷ rules Part.STRING_REST Part.STRING_REST ∷ rules Part.TOP_ITEM_2 Part.TOP_ITEM_2 ∷
+    rules Part.TOP_ITEM_20 Part.TOP_ITEM_20
+    ∷ rules Part.SWITCH_ITEM_1 Part.SWITCH_ITEM_1 ∷ rules Part.SWITCH_ITEM_4 Part.SWITCH_ITEM_4 ∷
+    rules Part.SWITCH_ITEM_25 Part.SWITCH_ITEM_25 ∷ []
 
 unfoldable pub of_statements : ℕ → ℕ
 of_statements rule = if is_in rule free_rules then 0 else if is_in rule single_rules then 1 else 2
@@ -168,8 +169,7 @@ first_begins (Symbol.Rule rule ∷ xs) ys is = cc
 
 listed_atom : (set atom : ℕ) → is_listed set ≡ true → has set atom ≡ true → is_list_atom atom ≡ true
 unfolding is_list_atom
-listed_atom set atom is h =
-    (and_parts (has set atom) (has list_atoms atom)
+listed_atom set atom is h = (and_parts (has set atom) (has list_atoms atom)
     (sym (has_and set list_atoms atom) ∙ (ap (λ s. has s atom) (eqb-true (bit_and set list_atoms) set is) ∙ h))).1
 
 none_listed : (symbols : List (Symbol Action)) → symbols ≡ [] → begins_listed symbols ≡ true → ⊥
@@ -186,8 +186,7 @@ listed_text : {symbols left : List (Symbol Action)} {atoms : List ℕ} {events :
     → left ≡ [] → begins_listed symbols ≡ true → (seen : List Seen) → atoms_of seen ≡ atoms → begins_list seen ≡ true
 listed_text (here {symbols = symbols}) none is seen are = absurd (none_listed symbols none is)
 listed_text (token h leads) none is [] are = cc
-listed_text (token {class} {atom} h leads) none is (s ∷ seen) are =
-    or_left (is_list_atom s.atom) _
+listed_text (token {class} {atom} h leads) none is (s ∷ seen) are = or_left (is_list_atom s.atom) _
     (listed_atom (grammar.atoms_of class) s.atom is (ap (λ n. has (grammar.atoms_of class) n) (same_first are) ∙ h))
 listed_text (action leads) none is seen are = listed_text leads none is seen are
 listed_text (row {rule} {r} {symbols} is_row free leads) none is seen are =

@@ -3,7 +3,8 @@ use Rattle.std.specs.Prelude.{◌≡◌, ℕ, ◌+◌, ◌<◌, List, [], ◌∷
 use Rattle.inf_scanner.specs.declared.tokens.Mark.{Mark}
 use Rattle.inf_settings.specs.Bounds.{Limits}
 use Rattle.inf_machine.specs.Grammar.{Event, IsText, has}
-use Rattle.inf_syntax.specs.{Atoms.joined, Atoms.mark_atom, Atoms.of_word, Parts.piece, declared.actions.Action.Action}
+use Rattle.inf_syntax.specs.{Atoms.joined, Atoms.mark_atom, Atoms.of_word, declared.actions.Action.Action}
+use Rattle.inf_syntax.specs.declared.parts.names.TheConstants as Part
 use Rattle.inf_grammar.specs.Language.{grammar}
 use Rattle.inf_unit.specs.Units.{no_unit}
 use Rattle.inf_compilation.specs.{Actions.Compilation, Actions.piece_begun, Context.Context}
@@ -65,13 +66,13 @@ pub record IsDirective (limits : Limits) (seen : List Seen) : Type 0 where
   pub same : all_seen tree.unit ++ tree.semicolon ∷ [] ≡ seen
   pub written : AreWritten no_unit tree.unit
   pub does : (context : Context) (w : Compilation)
-      → piece_done (all_taken limits context seen (piece ∷ []) (piece_begun w))
+      → piece_done (all_taken limits context seen (Part.PIECE ∷ []) (piece_begun w))
       ≡ piece_done (directive_done limits context tree (piece_begun w))
 
 -- All tokens that are a text of a piece and begin as such a directive are one. Each that has the atom of a mark is that mark, and
 -- there are few enough of them for their orders to differ.
 abbrev pub DirectivesAreTrees : Limits → Type 0
 DirectivesAreTrees limits =
-    (seen : List Seen) (events : List (Event Action)) → IsText grammar (piece ∷ []) (atoms_of seen) events
+    (seen : List Seen) (events : List (Event Action)) → IsText grammar (Part.PIECE ∷ []) (atoms_of seen) events
     → begins_directive (atoms_of seen) ≡ true → AreSeen (atoms_of seen) (tokens_of seen) → length seen < 4294967295
     → NoneClosesAhead seen → IsDirective limits seen

@@ -5,9 +5,9 @@ use Rattle.inf_scanner.specs.{declared.tokens.Mark.Mark, declared.tokens.Place.P
 use Rattle.inf_settings.specs.Bounds.{Limits}
 use Rattle.inf_machine.specs.{Grammar.Event, Grammar.IsOneOf, Grammar.IsText, Grammar.has, declared.symbols.Symbol.Symbol}
 use Rattle.inf_syntax.specs.{Atoms.joined, Atoms.of_mark, Atoms.of_word, declared.actions.Action.Action}
-use Rattle.inf_syntax.specs.Parts.{ !begin, !deeper, !outer, 'close_brace', 'do', 'for', 'if', 'objectloop', 'open_brace', 'switch'}
-use Rattle.inf_syntax.specs.Parts.{'while', do_rest, expression, for_rest, if_rest, mark_statement_1, objectloop_rest, statement}
-use Rattle.inf_syntax.specs.Parts.{switch_rest, top_item, while_rest}
+use Rattle.inf_syntax.specs.declared.parts.names.TheConstants as Part
+use Part.{CLOSE_BRACE, DO_BEGIN, DO_DEEPER, DO_OUTER, DO_REST, EXPRESSION, FOR_REST, IF_REST, MARK_STATEMENT_1, OBJECTLOOP_REST, OPEN_BRACE}
+use Part.{STATEMENT, SWITCH_REST, TOP_ITEM, WHILE_REST, WORD_DO, WORD_FOR, WORD_IF, WORD_OBJECTLOOP, WORD_SWITCH, WORD_WHILE}
 use Rattle.inf_grammar.specs.Language.{grammar}
 use Rattle.inf_unit.specs.{Tokens.is_mark, Units.Unit as UnitAtHand, Units.begun, Units.over}
 use Rattle.inf_compilation.specs.{Actions.Compilation, Context.Context}
@@ -63,12 +63,14 @@ pub record IsStatement (limits : Limits) (u : UnitAtHand) (seen : List Seen) (ev
 
 -- a block, and the statements that hold others, with what stands before their words
 abbrev pub block : List (Symbol Action)
-block = 'open_brace' ∷ mark_statement_1 ∷ 'close_brace' ∷ []
+block = OPEN_BRACE ∷ MARK_STATEMENT_1 ∷ CLOSE_BRACE ∷ []
 
 abbrev pub holding : List (Symbol Action) → List (List (Symbol Action))
 holding before =
-    (before ++ 'if' ∷ if_rest ∷ []) ∷ (before ++ 'while' ∷ while_rest ∷ []) ∷ (before ++ 'do' ∷ do_rest ∷ [])
-    ∷ (before ++ 'for' ∷ for_rest ∷ []) ∷ (before ++ 'objectloop' ∷ objectloop_rest ∷ []) ∷ (before ++ 'switch' ∷ switch_rest ∷ []) ∷ []
+    (before ++ WORD_IF ∷ IF_REST ∷ []) ∷ (before ++ WORD_WHILE ∷ WHILE_REST ∷ []) ∷ (before ++ WORD_DO ∷
+    DO_REST ∷ [])
+    ∷ (before ++ WORD_FOR ∷ FOR_REST ∷ []) ∷ (before ++ WORD_OBJECTLOOP ∷ OBJECTLOOP_REST ∷ []) ∷
+    (before ++ WORD_SWITCH ∷ SWITCH_REST ∷ []) ∷ []
 
 -- Tokens that are a statement of one unit, a block or a statement that holds others; or where `cases` says so a case: the first end of a
 -- unit among its events is that of a case.
@@ -83,10 +85,10 @@ pub data IsOneUnit (limits : Limits) (before : List (Symbol Action)) (u : UnitAt
 -- mark, and there are few enough tokens for their orders to differ.
 pub record StatementsAreTrees (limits : Limits) : Type 0 where
   pub statements : (u : UnitAtHand) (seen : List Seen) (events : List (Event Action))
-      → IsText grammar (statement ∷ []) (atoms_of seen) events → AreSeen (atoms_of seen) (tokens_of seen)
-      → length seen + 1 < 4294967295 → IsOneUnit limits (!deeper ∷ []) u seen events false
+      → IsText grammar (STATEMENT ∷ []) (atoms_of seen) events → AreSeen (atoms_of seen) (tokens_of seen)
+      → length seen + 1 < 4294967295 → IsOneUnit limits (DO_DEEPER ∷ []) u seen events false
   pub items : (u : UnitAtHand) (seen : List Seen) (events : List (Event Action))
-      → IsText grammar (top_item ∷ []) (atoms_of seen) events → AreSeen (atoms_of seen) (tokens_of seen)
+      → IsText grammar (TOP_ITEM ∷ []) (atoms_of seen) events → AreSeen (atoms_of seen) (tokens_of seen)
       → length seen + 1 < 4294967295 → IsOneUnit limits [] u seen events true
 
 -- Tells whether tokens behind a unit `u` are a unit of some parts, and whether taking them by some events reads this unit.
@@ -102,5 +104,6 @@ pub record IsBracketed (limits : Limits) (u : UnitAtHand) (seen : List Seen) (ev
 abbrev pub BracketedUnitsAreTrees : Limits → Type 0
 BracketedUnitsAreTrees limits =
     (u : UnitAtHand) (seen : List Seen) (events : List (Event Action))
-    → IsText grammar (!begin ∷ !outer ∷ expression ∷ []) (atoms_of seen) events → AreSeen (atoms_of seen) (tokens_of seen)
+    → IsText grammar (DO_BEGIN ∷ DO_OUTER ∷ EXPRESSION ∷
+    []) (atoms_of seen) events → AreSeen (atoms_of seen) (tokens_of seen)
     → length seen + 1 < 4294967295 → IsBracketed limits u seen events

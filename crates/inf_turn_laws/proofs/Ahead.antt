@@ -48,17 +48,14 @@ next_closed : (limits : Limits) (m : Between) (count : ℕ) (w : Compilation)
     ≡ passed m (closed_ahead limits count (construct_closed limits w))
 next_closed limits m count w = by_closed w.closed refl
   where
-    by_closed : (n : ℕ) → w.closed ≡ n
-        → construct_closed limits (passed m (closed_ahead limits (suc count) w))
+    by_closed : (n : ℕ) → w.closed ≡ n → construct_closed limits (passed m (closed_ahead limits (suc count) w))
         ≡ passed m (closed_ahead limits count (construct_closed limits w))
-    by_closed zero e =
-        ap (λ (v : Compilation). construct_closed limits (passed m v)) (ahead_is limits (suc count) w e)
+    by_closed zero e = ap (λ (v : Compilation). construct_closed limits (passed m v)) (ahead_is limits (suc count) w e)
         ∙ (next_passed limits m count w
         ∙ (ap (passed m) (next_ahead limits count w)
         ∙ (ap (passed m) (sym (ahead_is limits count (construct_ended limits w) e))
         ∙ ap (λ (v : Compilation). passed m (closed_ahead limits count v)) (sym (closing_open limits w e)))))
-    by_closed (suc n) e =
-        closing_counted limits (max n count) (passed m (closed_ahead limits (suc count) w)) (most_less w.closed n count e)
+    by_closed (suc n) e = closing_counted limits (max n count) (passed m (closed_ahead limits (suc count) w)) (most_less w.closed n count e)
         ∙ (ap (λ k. passed m (record (constructs_laid (all_ended limits k w.constructs) w) { closed = max n count }))
         (fewer w.closed n count e)
         ∙ ap (λ (v : Compilation). passed m (closed_ahead limits count v)) (sym (closing_counted limits n w e)))
@@ -91,8 +88,7 @@ ahead_ends : (limits : Limits) (context : Context) (place : Place) (m : Between)
     → acted limits context place (ends count) (passed m (closed_ahead limits count w))
     ≡ passed m (acted limits context place (ends count) w)
 ahead_ends limits context place m zero w = ap (passed m) (nothing_ahead limits w)
-ahead_ends limits context place m (suc count) w =
-    ap (acted limits context place (ends count)) (next_closed limits m count w)
+ahead_ends limits context place m (suc count) w = ap (acted limits context place (ends count)) (next_closed limits m count w)
     ∙ ahead_ends limits context place m count (construct_closed limits w)
 
 -- the happenings of these ends have the same effect
@@ -142,14 +138,12 @@ starts limits context (Some m) s own symbols others w waits =
     record {
       rest = c.0;
       from = passed m (acted limits context place (ends k) v);
-      acts =
-          ap (λ n. acted limits context place (taken grammar known s.atom symbols).actions
+      acts = ap (λ n. acted limits context place (taken grammar known s.atom symbols).actions
           (next_comes (passed m (closed_ahead limits n w)))) waits.1
           ∙ (ap (λ l. acted limits context place l (passed m (closed_ahead limits k v))) actions
           ∙ (acted_then limits context place (ends k) c.0 (passed m (closed_ahead limits k v))
           ∙ ap (acted limits context place c.0) (ahead_ends limits context place m k v)));
-      runs =
-          ap (λ n. run limits context
+      runs = ap (λ n. run limits context
           (behind_some n m (token_happenings s.token own (taken grammar known s.atom symbols).actions ++ others)) v) waits.1
           ∙ (ap (λ l. run limits context (behind_some k m (token_happenings s.token own l ++ others)) v) actions
           ∙ behind_ends_run limits context s.token own m waits.0 c.0 others v);
@@ -173,8 +167,7 @@ pub onward : (limits : Limits) (context : Context) (seen : List Seen) (symbols :
     → next_comes (all_taken limits context seen symbols (directed limits d (closings symbols) (passed b w)))
     ≡ run limits context (behind_ends d (closings symbols) hs) (next_comes (passed (behind_token d (closings symbols) b) w))
 onward limits context seen symbols hs further None b w count is = further None (passed b w) tt
-onward limits context seen symbols hs further (Some m) b w (suc count) is =
-    further (Some m) (passed b w) (count, is)
+onward limits context seen symbols hs further (Some m) b w (suc count) is = further (Some m) (passed b w) (count, is)
     ∙ ap (λ n. run limits context (behind_some (closings symbols) m hs) (next_comes (passed (behind_token (Some m) n b) w))) (sym is)
 onward limits context seen symbols hs further (Some m) b w zero is =
     let v = passed b w in

@@ -54,17 +54,14 @@ ends_first None zero place a hs = refl
 ends_first None (suc zero) place a hs = refl
 ends_first None (suc (suc count)) place a hs = refl
 ends_first (Some m) zero place a hs = ap (λ l. Acts (plainly_at place) a ∷ l) (sym (no_ends (Some m) hs))
-ends_first (Some m) (suc zero) place a hs =
-    ap (λ l. Acts (ends_at (Some m) (plainly_at place)) a ∷ l)
+ends_first (Some m) (suc zero) place a hs = ap (λ l. Acts (ends_at (Some m) (plainly_at place)) a ∷ l)
     (sym (no_ends (Some m) hs) ∙ ap (λ n. behind_some n m hs) (sym (one_less 0)))
-ends_first (Some m) (suc (suc count)) place a hs =
-    ap (λ n. Acts (plainly_at place) a ∷ behind_some n m hs) (sym (one_less (suc count)))
+ends_first (Some m) (suc (suc count)) place a hs = ap (λ n. Acts (plainly_at place) a ∷ behind_some n m hs) (sym (one_less (suc count)))
 
 -- before which nothing is over
 none_first : (effect : Option Between) (count : ℕ) (h : Happening) (hs : List Happening) → count ≡ 0
     → behind_ends effect count (h ∷ hs) ≡ h ∷ behind_ends effect count hs
-none_first effect count h hs e =
-    ap (λ n. behind_ends effect n (h ∷ hs)) e
+none_first effect count h hs e = ap (λ n. behind_ends effect n (h ∷ hs)) e
     ∙ (no_ends effect (h ∷ hs) ∙ (ap (λ l. h ∷ l) (sym (no_ends effect hs)) ∙ ap (λ n. h ∷ behind_ends effect n hs) (sym e)))
 
 given_close : (now : Option Between) (effects : Effects) (at : Moment) (a : Action) (others : List Happening) → is_close a ≡ true

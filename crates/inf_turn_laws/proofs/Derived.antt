@@ -19,16 +19,14 @@ pub record Follow (now : Taken Action) (atoms : List ℕ) (left : List (Symbol A
     pub rest : List (Event Action)
     pub leads : Leads grammar now.left atoms rest left
     pub ends : EndWithToken now.left
-    pub are : (s : Seen) (seen : List Seen)
-        → all s seen
+    pub are : (s : Seen) (seen : List Seen) → all s seen
         ≡ token_happenings s.token (behind_token s.directive (closings now.left) s.behind) now.actions
         ++ behind_ends s.directive (closings now.left) (text_happenings leads seen)
 
 -- A derivation has no token, or the machine takes its first one.
 abbrev pub First : List (Symbol Action) → List ℕ → List (Symbol Action) → (Seen → List Seen → List Happening) → Type 0
 First symbols [] left all = Unit {0}
-First symbols (atom ∷ atoms) left all =
-    (fits grammar known atom symbols ≡ true) × Follow (taken grammar known atom symbols) atoms left all
+First symbols (atom ∷ atoms) left all = (fits grammar known atom symbols ≡ true) × Follow (taken grammar known atom symbols) atoms left all
 
 first_behind : (a : Action) (symbols : List (Symbol Action)) (atoms : List ℕ) (left : List (Symbol Action))
     (all : Seen → List Seen → List Happening) → First symbols atoms left all

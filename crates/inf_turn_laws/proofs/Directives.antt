@@ -50,8 +50,7 @@ kept_joined (Ends m ∷ a) b first second = kept_joined a b first second
 walked_done : (limits : Limits) (o : Choices) (n : ℕ) (m : PieceState)
     → progress_of (walked limits o n m) ≡ done_by limits (context_of o m.state) (steps_from limits o n m) (progress_of m)
 walked_done limits o zero m = refl
-walked_done limits o (suc n) m =
-    walked_done limits o n (moved limits o m)
+walked_done limits o (suc n) m = walked_done limits o n (moved limits o m)
     ∙ sym (done_joined limits (context_of o m.state) (steps_at limits o within m.state) (steps_from limits o n (moved limits o m))
     (progress_of m))
 
@@ -150,8 +149,7 @@ front_takes : (limits : Limits) (context : Context) (m : Between) (t : SourceTok
     → ClosesNone course.ends (seen_in t steps)
     → (done_by limits context (Passes m ∷ Reads (Kept t) ∷ steps) (fresh_progress course w)).work
     ≡ all_taken limits context (all_merged (seen_in t steps)) (Symbol.Rule piece_rule ∷ []) (work_begun (passed m w))
-front_takes limits context m t steps course w no_end kept d closes =
-    front_taken limits context m t steps course w no_end kept d
+front_takes limits context m t steps course w no_end kept d closes = front_taken limits context m t steps course w no_end kept d
     ∙ taken_merged limits context (seen_in t steps) (Symbol.Rule piece_rule ∷ []) [] course (seen_derives t steps course kept d)
     (rule_is_spaced piece_rule) closes (work_begun (passed m w))
 

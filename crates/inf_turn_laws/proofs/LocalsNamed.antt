@@ -216,16 +216,14 @@ locals_stay : (limits : Limits) (context : Context) (place : Place) (names : Lis
     → (run limits context (happenings_before place (local_events names) names) w).locals ≡ w.locals
 locals_stay limits context place [] w = refl
 locals_stay limits context place (s ∷ []) w = took_locals context s.token w
-locals_stay limits context place (s ∷ n ∷ names) w =
-    locals_stay limits context place (n ∷ names)
+locals_stay limits context place (s ∷ n ∷ names) w = locals_stay limits context place (n ∷ names)
     (happens limits context (Acts (plainly_at n.token.place) Action.Local) (happens limits context (Takes s.token s.behind) w))
     ∙ took_locals context s.token w
 
 header_new : (limits : Limits) (context : Context) (first : Place) (names : List Name) (w : Compilation) → AreNew w.locals
     → AreNew w.unit.headed.locals → AreNew (header_of limits context first names w).locals
 header_new limits context first [] w old new = old
-header_new limits context first (name ∷ names) w old new =
-    of_both (λ (v : Compilation). AreNew v.locals) (is_to_be_replaced name w)
+header_new limits context first (name ∷ names) w old new = of_both (λ (v : Compilation). AreNew v.locals) (is_to_be_replaced name w)
     (passed true (record w { is_replaced = true; is_embedded = false; constructs = [] }))
     (header_with limits context first name w.unit.headed (record w { is_replaced = false; is_embedded = false })) (λ _. old) (λ _. new)
 

@@ -68,16 +68,14 @@ marked_by_nothing (l ∷ ls) = ap (λ rest. l ∷ rest) (marked_by_nothing ls)
 with_all_named-marks : (names : List Name) (ls : List Local) → AreDifferent ls →
     with_all_named names ls ≡ map (marked (λ n. is_named_by n names)) ls
 with_all_named-marks [] ls d = marked_by_nothing ls
-with_all_named-marks (first ∷ names) ls d =
-    ap (with_all_named names) (with_named-marks first.bytes ls d)
+with_all_named-marks (first ∷ names) ls d = ap (with_all_named names) (with_named-marks first.bytes ls d)
     ∙ with_all_named-marks names (map (marked (is_same first.bytes)) ls) (different-marked (is_same first.bytes) ls d)
     ∙ marked_twice (is_same first.bytes) (λ n. is_named_by n names) ls
 
 with_units-marks : (units : List (List Name)) (ls : List Local) → AreDifferent ls →
     with_units units ls ≡ map (marked (λ n. is_named_in n units)) ls
 with_units-marks [] ls d = marked_by_nothing ls
-with_units-marks (names ∷ units) ls d =
-    ap (with_units units) (with_all_named-marks names ls d)
+with_units-marks (names ∷ units) ls d = ap (with_units units) (with_all_named-marks names ls d)
     ∙ with_units-marks units (map (marked (λ n. is_named_by n names)) ls) (different-marked (λ n. is_named_by n names) ls d)
     ∙ marked_twice (λ n. is_named_by n names) (λ n. is_named_in n units) ls
 
@@ -98,8 +96,7 @@ warned context place test (l ∷ ls) r un =
 
 pub unused_are_told : (context : Context) (place : Place) (units : List (List Name)) (ls : List Local) (r : Reported) → AreNew ls →
     with_all_unused context place (with_units units ls) r ≡ with_warnings context place (unused units ls) r
-unused_are_told context place units ls r new =
-    ap (λ xs. with_all_unused context place xs r) (with_units-marks units ls new.different)
+unused_are_told context place units ls r new = ap (λ xs. with_all_unused context place xs r) (with_units-marks units ls new.different)
     ∙ warned context place (λ n. is_named_in n units) ls r new.unnamed
 
 -- Lemmas about headers
@@ -142,8 +139,7 @@ one_more n h None e new =
     cond_both (ltb (length h.locals) most_locals) more full (λ x. AreNew x.locals)
     (λ _. record {
       different = different-push h.locals l new.different (absent n.bytes h.locals e);
-      unnamed = unnamed-push h.locals l
-          new.unnamed refl;
+      unnamed = unnamed-push h.locals l new.unnamed refl;
     })
     (λ _. new)
 

@@ -10,16 +10,7 @@ use Rattle.inf_program.specs.{Turns.grouped, definition.Steps.Ends, definition.S
 
 -- all marks, each at its atom
 marks : List Mark
-marks =
-    Mark.Arrow
-    ∷ Mark.LongArrow
-    ∷ Mark.Minus
-    ∷ Mark.Decrement
-    ∷ Mark.Plus
-    ∷ Mark.Increment
-    ∷ Mark.Times
-    ∷ Mark.Divide
-    ∷ Mark.Remainder
+marks = Mark.Arrow ∷ Mark.LongArrow ∷ Mark.Minus ∷ Mark.Decrement ∷ Mark.Plus ∷ Mark.Increment ∷ Mark.Times ∷ Mark.Divide ∷ Mark.Remainder
     ∷ Mark.BitAnd
     ∷ Mark.LogicalAnd
     ∷ Mark.BitOr

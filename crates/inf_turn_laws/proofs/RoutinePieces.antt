@@ -6,7 +6,7 @@ use Rattle.inf_machine.specs.{Machine.Taken, Machine.events_of, Machine.taken, d
 use Rattle.inf_machine.specs.Grammar.{Did, Event, IsText, Leads, Took, action, has, token}
 use Rattle.inf_machine.proofs.Taking.{leads_only}
 use Rattle.inf_syntax.specs.{Atoms.mark_atom, declared.actions.Action.Action}
-use Rattle.inf_syntax.specs.Parts.{ !end_locals, !end_routine, 'close_bracket', 'semicolon', NAME, directive_1, directive_2}
+use Rattle.inf_syntax.specs.declared.parts.names.TheConstants as Part
 use Rattle.inf_grammar.specs.{Evaluated.language_is_decided, Language.grammar, Language.known}
 use Rattle.inf_unit.specs.Tokens.{SourceToken, atom_of}
 use Rattle.inf_compilation.specs.{Actions.Compilation, Actions.piece_begun as work_begun, Context.Context}
@@ -28,7 +28,8 @@ use Rattle.inf_turn_laws.proofs.Directives.{Whole, front_taken, later_steps, see
 -- the symbols behind the bracket of a routine
 abbrev behind_bracket : List (Symbol Action)
 behind_bracket =
-    NAME ∷ directive_1 ∷ !end_locals ∷ 'semicolon' ∷ directive_2 ∷ !end_routine ∷ 'close_bracket' ∷ 'semicolon' ∷ []
+    Part.NAME ∷ Part.DIRECTIVE_1 ∷ Part.DO_END_LOCALS ∷ Part.SEMICOLON ∷ Part.DIRECTIVE_2 ∷ Part.DO_END_ROUTINE ∷ Part.CLOSE_BRACKET ∷
+    Part.SEMICOLON ∷ []
 
 bracket_taken : taken grammar known (mark_atom Mark.OpenBracket) (Symbol.Rule piece_rule ∷ [])
     ≡ record { actions = Action.Routine ∷ []; left = behind_bracket }

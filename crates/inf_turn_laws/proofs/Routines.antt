@@ -6,7 +6,8 @@ use Rattle.inf_scanner.specs.declared.tokens.Mark.{Mark}
 use Rattle.inf_machine.specs.{Grammar.Event, Grammar.Leads, Laws.IsSpaced, declared.symbols.Symbol.Symbol}
 use Rattle.inf_machine.specs.Machine.{Taken, fits, taken, work}
 use Rattle.inf_machine.proofs.Taking.{spaced_left}
-use Rattle.inf_syntax.specs.{Atoms.mark_atom, Parts.directive, declared.actions.Action.Action}
+use Rattle.inf_syntax.specs.{Atoms.mark_atom, declared.actions.Action.Action}
+use Rattle.inf_syntax.specs.declared.parts.names.TheConstants as Part
 use Rattle.inf_grammar.specs.{Evaluated.language_is_decided, Language.grammar, Language.known, Routines.closings}
 use Rattle.inf_unit.specs.Tokens.{atom_of}
 use Rattle.inf_compilation.specs.{Actions.Compilation, Actions.piece_begun as work_begun, Actions.took, Context.Context}
@@ -34,15 +35,13 @@ nothing_left (s ∷ seen) symbols events leads spaced ends =
     nothing_left seen (taken grammar known s.atom symbols).left on.rest on.leads
     (spaced_left grammar known language_is_decided s.atom (work known s.atom symbols) symbols f.0 spaced) on.ends
 
-bracket_fits : fits grammar known (mark_atom Mark.OpenBracket) (directive ∷ []) ≡ true
+bracket_fits : fits grammar known (mark_atom Mark.OpenBracket) (Part.DIRECTIVE ∷ []) ≡ true
 unfolding grammar known
 bracket_fits = refl
 
 -- tokens behind a first one, by the way in which that is taken
 abbrev pub taken_by : Limits → Context → Seen → List Seen → Taken Action → Compilation → Compilation
-taken_by limits context s seen n w =
-    all_taken limits context seen n.left
-    (directed limits s.directive (closings n.left)
+taken_by limits context s seen n w = all_taken limits context seen n.left (directed limits s.directive (closings n.left)
     (passed s.behind (took context s.token (all_acted limits context s.token.place n.actions w))))
 
 routine_read : (limits : Limits) (context : Context) (bracket : Seen) (seen : List Seen) (events : List (Event Action)) (w : Compilation)
@@ -53,7 +52,7 @@ routine_read limits context bracket seen events w is none text =
     let law = texts_do_their_actions limits in
     let routines = routines_are_read_whole limits in
     let piece : List (Symbol Action) = Symbol.Rule piece_rule ∷ [] in
-    let whole : List (Symbol Action) = directive ∷ [] in
+    let whole : List (Symbol Action) = Part.DIRECTIVE ∷ [] in
     let same : taken grammar known bracket.atom piece ≡ taken grammar known bracket.atom whole =
     subst (λ atom. taken grammar known atom piece ≡ taken grammar known atom whole) (sym is) routines.begin in
     let first : fits grammar known bracket.atom whole ≡ true = ap (λ atom. fits grammar known atom whole) is ∙ bracket_fits in

@@ -5,13 +5,7 @@ use Rattle.inf_scanner.specs.declared.tokens.Mark.{Mark}
 use Rattle.inf_machine.specs.declared.symbols.Symbol.{Symbol}
 use Rattle.inf_machine.specs.Grammar.{Event, IsOneOf, IsText, Leads, Row, action, first, here, later, row, token}
 use Rattle.inf_syntax.specs.{Atoms.mark_atom, declared.actions.Action.Action}
-use Rattle.inf_syntax.specs.Parts.{address_operator, address_tail, after_prim, after_unary, array_operator, array_tail, assign}
-use Rattle.inf_syntax.specs.Parts.{assign_tail, assign_tail_1, bit, bracketed, call, call_1, call_2, directive, expression}
-use Rattle.inf_syntax.specs.Parts.{expression_tail, inc, initial, initial_1, logic, logic_operator, logic_tail, neg, negated, other_assign}
-use Rattle.inf_syntax.specs.Parts.{other_prim, piece, plain_prim, post, post_tail, prefixed, prim, step_operator, step_prefix, step_tail}
-use Rattle.inf_syntax.specs.Parts.{sum, sum_operator, sum_tail, term, term_operator, term_tail, test, test_tail, test_tail_1, tested}
-use Rattle.inf_syntax.specs.Parts.{tested_1, whole_directive, whole_directive_1, whole_directive_2, whole_directive_3, whole_directive_4}
-use Rattle.inf_syntax.specs.Parts.{whole_directive_5, whole_directive_6}
+use Rattle.inf_syntax.specs.declared.parts.names.TheConstants as Part
 use Rattle.inf_grammar.specs.{Language.grammar, Routines.closings}
 use Rattle.inf_statement_laws.specs.Readings.{Seen}
 use Rattle.inf_trees.specs.Directives.{begins_directive, is_word}
@@ -28,13 +22,17 @@ is_close Action.Close = true
 is_close _ = false
 
 abbrev open_rules : List (Symbol Action)
-open_rules =
-    whole_directive ∷ whole_directive_1 ∷ whole_directive_2 ∷ whole_directive_3 ∷ whole_directive_4 ∷ whole_directive_5 ∷ whole_directive_6
-    ∷ initial ∷ initial_1 ∷ expression ∷ expression_tail ∷ assign ∷ assign_tail ∷ assign_tail_1 ∷ other_assign ∷ prefixed ∷ logic ∷
-    logic_tail
-    ∷ logic_operator ∷ negated ∷ test ∷ test_tail ∷ test_tail_1 ∷ tested ∷ tested_1 ∷ sum ∷ sum_operator ∷ sum_tail ∷ term ∷ term_operator
-    ∷ term_tail ∷ bit ∷ array_operator ∷ array_tail ∷ neg ∷ inc ∷ step_operator ∷ step_prefix ∷ step_tail ∷ address_operator ∷ address_tail
-    ∷ post ∷ post_tail ∷ call ∷ call_1 ∷ call_2 ∷ prim ∷ other_prim ∷ plain_prim ∷ bracketed ∷ after_prim ∷ after_unary ∷ []
+open_rules = Part.WHOLE_DIRECTIVE ∷ Part.WHOLE_DIRECTIVE_1 ∷ Part.WHOLE_DIRECTIVE_2 ∷ Part.WHOLE_DIRECTIVE_3 ∷ Part.WHOLE_DIRECTIVE_4 ∷
+    Part.WHOLE_DIRECTIVE_5 ∷ Part.WHOLE_DIRECTIVE_6
+    ∷ Part.INITIAL ∷ Part.INITIAL_1 ∷ Part.EXPRESSION ∷ Part.EXPRESSION_TAIL ∷ Part.ASSIGN ∷ Part.ASSIGN_TAIL ∷ Part.ASSIGN_TAIL_1 ∷
+    Part.OTHER_ASSIGN ∷ Part.PREFIXED ∷ Part.LOGIC ∷
+    Part.LOGIC_TAIL
+    ∷ Part.LOGIC_OPERATOR ∷ Part.NEGATED ∷ Part.TEST ∷ Part.TEST_TAIL ∷ Part.TEST_TAIL_1 ∷ Part.TESTED ∷ Part.TESTED_1 ∷ Part.SUM ∷
+    Part.SUM_OPERATOR ∷ Part.SUM_TAIL ∷ Part.TERM ∷ Part.TERM_OPERATOR
+    ∷ Part.TERM_TAIL ∷ Part.BIT ∷ Part.ARRAY_OPERATOR ∷ Part.ARRAY_TAIL ∷ Part.NEG ∷ Part.INC ∷ Part.STEP_OPERATOR ∷ Part.STEP_PREFIX ∷
+    Part.STEP_TAIL ∷ Part.ADDRESS_OPERATOR ∷ Part.ADDRESS_TAIL
+    ∷ Part.POST ∷ Part.POST_TAIL ∷ Part.CALL ∷ Part.CALL_1 ∷ Part.CALL_2 ∷ Part.PRIM ∷ Part.OTHER_PRIM ∷ Part.PLAIN_PRIM ∷
+    Part.BRACKETED ∷ Part.AFTER_PRIM ∷ Part.AFTER_UNARY ∷ []
 
 unfoldable pub is_open_rule : ℕ → Bool
 is_open_rule rule = is_among rule open_rules
@@ -84,7 +82,7 @@ open_ends (row {rule = rule} {r = r} {symbols = symbols} is_row free leads) is =
     let both = and_parts (is_open_rule rule) (are_open symbols) is in
     open_ends leads (open-append r.parts symbols (passes is_open_rule are_open rows_open rule both.0 r is_row) both.1)
 
-whole_is_open : are_open (whole_directive ∷ unit_end) ≡ true
+whole_is_open : are_open (Part.WHOLE_DIRECTIVE ∷ unit_end) ≡ true
 unfolding is_open_rule
 whole_is_open = refl
 
@@ -93,11 +91,10 @@ whole_is_open = refl
 row_ends : {parts : List (Symbol Action)} → DirectiveRow parts → (atom : ℕ) (atoms : List ℕ) (events : List (Event Action))
     → is_word atom ≡ true → (leads : Leads grammar (parts ++ []) (atom ∷ atoms) events []) → AllZero (ends_in leads)
 row_ends IsWhole atom atoms events is leads = open_ends leads whole_is_open
-row_ends (IsOutside {parts} out) atom atoms events is leads =
-    absurd (no_word leads (outside-append parts [] out) atom atoms refl is)
+row_ends (IsOutside {parts} out) atom atoms events is leads = absurd (no_word leads (outside-append parts [] out) atom atoms refl is)
 
 directive_ends : (atom : ℕ) (atoms : List ℕ) (events : List (Event Action)) → is_word atom ≡ true
-    → (leads : IsText grammar (directive ∷ []) (atom ∷ atoms) events) → AllZero (ends_in leads)
+    → (leads : IsText grammar (Part.DIRECTIVE ∷ []) (atom ∷ atoms) events) → AllZero (ends_in leads)
 directive_ends atom atoms events is (row {r = r} is_row free leads) = row_ends (directive_row r is_row) atom atoms events is leads
 
 -- a piece whose first row is that of the sign, or of a directive
@@ -107,7 +104,7 @@ piece_row_ends : (r : Row Action) → IsOneOf r piece_rows → (one two : ℕ) (
 piece_row_ends r first one two atoms events begins (token h leads) = elim leads [ ]
 piece_row_ends r (later first) one two atoms events begins (token {events = rest} h leads) =
     elim (or_cases (is_word one) ((one == mark_atom Mark.Hash) && is_word two) begins) [
-      | inl is ↦ absurd (no_word (token h leads) (sign_outside (directive ∷ [])) one (two ∷ atoms) refl is)
+      | inl is ↦ absurd (no_word (token h leads) (sign_outside (Part.DIRECTIVE ∷ [])) one (two ∷ atoms) refl is)
       | inr both ↦ (refl, directive_ends two atoms rest (and_parts (one == mark_atom Mark.Hash) (is_word two) both).1 leads)
     ]
 piece_row_ends r (later (later first)) one two atoms events begins leads =
@@ -120,7 +117,7 @@ piece_row_ends r (later (later first)) one two atoms events begins leads =
 piece_row_ends r (later (later (later missing))) one two atoms events begins leads = elim missing [ ]
 
 piece_ends : (atoms : List ℕ) (events : List (Event Action)) → begins_directive atoms ≡ true
-    → (leads : IsText grammar (piece ∷ []) atoms events) → AllZero (ends_in leads)
+    → (leads : IsText grammar (Part.PIECE ∷ []) atoms events) → AllZero (ends_in leads)
 piece_ends [] events begins leads = cc
 piece_ends (one ∷ []) events begins leads = cc
 piece_ends (one ∷ two ∷ atoms) events begins (row {r = r} is_row free leads) =
@@ -133,6 +130,7 @@ none_close (count ∷ counts) (s ∷ seen) zero = (inl zero.0, none_close counts
 
 -- Conditional directives within such a piece close no statement ahead.
 pub directives_close_none : (atoms : List ℕ) (events : List (Event Action)) (counts : List ℕ) (seen : List Seen)
-    → begins_directive atoms ≡ true → (leads : IsText grammar (piece ∷ []) atoms events) → ends_in leads ≡ counts → ClosesNone counts seen
+    → begins_directive atoms ≡ true → (leads : IsText grammar (Part.PIECE ∷
+    []) atoms events) → ends_in leads ≡ counts → ClosesNone counts seen
 directives_close_none atoms events counts seen begins leads are =
     subst (λ (numbers : List ℕ). ClosesNone numbers seen) are (none_close (ends_in leads) seen (piece_ends atoms events begins leads))

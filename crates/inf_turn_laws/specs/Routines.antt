@@ -4,7 +4,8 @@ use Rattle.inf_settings.specs.Bounds.{Limits}
 use Rattle.inf_scanner.specs.declared.tokens.Mark.{Mark}
 use Rattle.inf_devices.specs.Files.{Sources}
 use Rattle.inf_machine.specs.{Grammar.Event, Grammar.IsText, declared.symbols.Symbol.Symbol}
-use Rattle.inf_syntax.specs.{Atoms.mark_atom, Parts.directive, declared.actions.Action.Action}
+use Rattle.inf_syntax.specs.{Atoms.mark_atom, declared.actions.Action.Action}
+use Rattle.inf_syntax.specs.declared.parts.names.TheConstants as Part
 use Rattle.inf_grammar.specs.Language.{grammar}
 use Rattle.inf_unit.specs.Tokens.{SourceToken, atom_of, is_end}
 use Rattle.inf_compilation.specs.{Actions.Compilation, Actions.piece_begun as work_begun, Context.Context}
@@ -21,7 +22,7 @@ use Rattle.inf_turn_laws.specs.Acted.{seen_in}
 -- Tells whether tokens are those of a routine, which leads as a whole from one compilation to another.
 pub record LaysRoutine (limits : Limits) (context : Context) (seen : List Seen) (before after : Compilation) : Type 0 where
   pub routine : Routine
-  pub same : routine_happenings routine ≡ all_happenings seen (directive ∷ [])
+  pub same : routine_happenings routine ≡ all_happenings seen (Part.DIRECTIVE ∷ [])
   pub lays : next_comes after ≡ routine_laid limits context routine (next_comes before)
 
 -- Turns from where a piece begins, behind which nothing else happens up to the last, and whose kept tokens are the text of a piece that

@@ -30,8 +30,7 @@ Has r (other ∷ all) = (other ≡ r) ⊎ Has r all
 is_other : (w : World) (numbers : Numbers) (action : Option Operand) (r x : Routine) (all : List Routine) → IsOther w numbers x all → Has r all →
     (number_of w numbers x == number_of w numbers r) ≡ false
 is_other w numbers action r x [] d h = absurd h
-is_other w numbers action r x (other ∷ all) d (inl e) =
-    ap (λ (y : Routine). number_of w numbers x == number_of w numbers y) (sym e) ∙ d.0
+is_other w numbers action r x (other ∷ all) d (inl e) = ap (λ (y : Routine). number_of w numbers x == number_of w numbers y) (sym e) ∙ d.0
 is_other w numbers action r x (other ∷ all) d (inr h) = is_other w numbers action r x all d.1 h
 
 finds : (w : World) (numbers : Numbers) (action : Option Operand) (r : Routine) (all : List Routine) → AreDifferent w numbers all → Has r all → (s : Store)

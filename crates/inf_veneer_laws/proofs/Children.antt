@@ -20,8 +20,7 @@ has_object w = truth_of w (Leaf (Operand.Variable 1))
 
 -- one more is counted, and the next object is found
 abbrev goes_on : World → Effect
-goes_on w =
-    both_run (alone_run w (One (Unary.Behind Direction.Up) (Leaf (Operand.Variable 2)) ∷ []))
+goes_on w = both_run (alone_run w (One (Unary.Behind Direction.Up) (Leaf (Operand.Variable 2)) ∷ []))
     (alone_run w (Two Binary.Assign (Leaf (Operand.Variable 1)) (One (Unary.Relative Relative.Sibling) (Leaf (Operand.Variable 1))) ∷ []))
 
 abbrev counts : World → ℕ → Effect
@@ -44,8 +43,7 @@ one_turn : (w : World) → HasObjects w → (t : Store) → goes_on w t ≡ come
 one_turn w h t = ap (λ (o : ℕ). comes_to Done (with_variable 1 o (one_more t))) (h.sibling (one_more t) (t.variables 1))
 
 turn_left : (s t : Store) → left s (next_store t) ≡ left s t
-turn_left s t =
-    local_left s (one_more t) 1 (sibling_in t.bytes (t.variables 1)) refl ∙ local_left s t 2 ((t.variables 2 + 1) % 65536) refl
+turn_left s t = local_left s (one_more t) 1 (sibling_in t.bytes (t.variables 1)) refl ∙ local_left s t 2 ((t.variables 2 + 1) % 65536) refl
 
 counted_by : (w : World) → HasObjects w → (most turns : ℕ) →
     ((t : Store) (n : ℕ) → count_from most t.bytes (t.variables 1) (t.variables 2) ≡ Some n → Counts w turns t n) →
@@ -62,8 +60,7 @@ counted_by w h most turns later t n true e f = record {
 counted_by w h most turns later t n false e f =
     let r = later (next_store t) n f in record {
       behind = r.behind;
-      runs =
-          while_turns (has_object w) (goes_on w) turns t (next_store t) (ap (λ (b : Bool). is_found t (not b)) e) (one_turn w h t)
+      runs = while_turns (has_object w) (goes_on w) turns t (next_store t) (ap (λ (b : Bool). is_found t (not b)) e) (one_turn w h t)
           ∙ r.runs;
       is = r.is;
       same = λ s. r.same s ∙ turn_left s t;
@@ -82,8 +79,7 @@ begun w o s = with_variable 1 (w.child (entered (o ∷ []) s) o) (entered (o ∷
 
 children_counted : (w : World) (numbers : Numbers) → HasObjects w → (turns o n : ℕ) (s : Store) → Counts w turns (begun w o s) n →
     called_with w numbers turns count_children (o ∷ []) s ≡ returns_with n s
-children_counted w numbers h turns o n s c =
-    ap (λ (m : Option (Outcome × Store)). m then ended s)
+children_counted w numbers h turns o n s c = ap (λ (m : Option (Outcome × Store)). m then ended s)
     (both_done (counts w turns) (return_run w (Leaf (Operand.Variable 2) ∷ [])) (begun w o s) c.behind c.runs)
     ∙ ap (λ (x : ℕ). returns_with x (left s c.behind)) c.is
     ∙ ap (returns_with n) (c.same s ∙ one_local (o ∷ []) s 1 (w.child (entered (o ∷ []) s) o) refl)

@@ -45,19 +45,11 @@ gives_behind first second t u n e stays g = record {
 
 gives_past : (holds : Truth) (body rest : Effect) (t : Store) (n : ℕ) → holds t ≡ is_found t false → Gives rest t n →
     Gives (both_run (if_run holds body) rest) t n
-gives_past holds body rest t n e g = record {
-  behind = g.behind;
-  runs = guard_passes holds body rest t e ∙ g.runs;
-  same = g.same;
-}
+gives_past holds body rest t n e g = record { behind = g.behind; runs = guard_passes holds body rest t e ∙ g.runs; same = g.same }
 
 gives_there : (holds : Truth) (body rest : Effect) (t : Store) (n : ℕ) → holds t ≡ is_found t true → body t ≡ comes_to (Returned n) t →
     Gives (both_run (if_run holds body) rest) t n
-gives_there holds body rest t n e f = record {
-  behind = t;
-  runs = guard_returns holds body rest t t n e f;
-  same = λ s. refl;
-}
+gives_there holds body rest t n e f = record { behind = t; runs = guard_returns holds body rest t t n e f; same = λ s. refl }
 
 equal_is : (t : Store) (x y : ℕ) (b : Bool) → (x == y) ≡ b → is_found t ((x == y) || false) ≡ is_found t b
 equal_is t x y b e = ap (is_found t) (or_false (x == y) ∙ e)
@@ -91,8 +83,7 @@ stepped_on t = with_variable 5 ((t.variables 5 + 1) % 65536) t
 for_by : (holds : Truth) (step : Change) (body : Effect) (turns : ℕ) (t : Store) (b : Bool) → holds t ≡ is_found t b →
     for_run holds step body (suc turns) t
     ≡ (if b then (body t then λ r. behind_turn (λ u. step u then λ v. for_run holds step body turns v) r.0 r.1) else comes_to Done t)
-for_by holds step body turns t b e =
-    ap (λ (o : Option (Bool × Store)). o then λ p.
+for_by holds step body turns t b e = ap (λ (o : Option (Bool × Store)). o then λ p.
     if p.0 then (body p.1 then λ r. behind_turn (λ u. step u then λ v. for_run holds step body turns v) r.0 r.1) else Some (Done, p.1)) e
 
 for_turn : (holds : Truth) (step : Change) (body : Effect) (turns : ℕ) (t : Store) (m : Option (Outcome × Store)) → body t ≡ m →
@@ -114,16 +105,13 @@ among_by : (w : World) (count turns : ℕ) →
 among_by w count turns later t sum few b e = go b e
   where
     more : goes_on w t ≡ is_found t true
-    more =
-        ap (is_found t) (small_less (t.variables 5) (t.variables 4) (omega (arith, sum, few)) few
+    more = ap (is_found t) (small_less (t.variables 5) (t.variables 4) (omega (arith, sum, few)) few
         ∙ lt-ltb (t.variables 5) (t.variables 4) (omega (arith, sum)))
 
-    go : (b : Bool) → (word_in t.bytes (t.variables 3) (t.variables 5) == t.variables 2) ≡ b →
-        Gives (search_run w (suc turns)) t
+    go : (b : Bool) → (word_in t.bytes (t.variables 3) (t.variables 5) == t.variables 2) ≡ b → Gives (search_run w (suc turns)) t
         (truth (b || is_among count t.bytes (t.variables 3) (t.variables 2) ((t.variables 5 + 1) % 65536)))
     go true f =
-        let body : turn w t ≡ comes_to (Returned 1) t =
-        if_by (is_there w) returns_1 t true
+        let body : turn w t ≡ comes_to (Returned 1) t = if_by (is_there w) returns_1 t true
         (equal_is t (word_in t.bytes (t.variables 3) (t.variables 5)) (t.variables 2) true f) in
         let looked = for_by (goes_on w) (steps w) (turn w) turns t true more
         ∙ for_turn (goes_on w) (steps w) (turn w) turns t (comes_to (Returned 1) t) body in record {
@@ -132,8 +120,7 @@ among_by w count turns later t sum few b e = go b e
           same = λ s. refl;
         }
     go false f =
-        let body : turn w t ≡ comes_to Done t =
-        if_by (is_there w) returns_1 t false
+        let body : turn w t ≡ comes_to Done t = if_by (is_there w) returns_1 t false
         (equal_is t (word_in t.bytes (t.variables 3) (t.variables 5)) (t.variables 2) false f) in
         let looked = for_by (goes_on w) (steps w) (turn w) turns t true more
         ∙ for_turn (goes_on w) (steps w) (turn w) turns t (comes_to Done t) body in
@@ -146,36 +133,31 @@ among_by w count turns later t sum few b e = go b e
           same = λ s. r.same s ∙ local_left s t 5 ((t.variables 5 + 1) % 65536) refl;
         }
 
-among : (w : World) (count turns : ℕ) → suc count ≤ turns → (t : Store) → t.variables 5 + count ≡ t.variables 4 →
-    t.variables 4 < 32768 →
+among : (w : World) (count turns : ℕ) → suc count ≤ turns → (t : Store) → t.variables 5 + count ≡ t.variables 4 → t.variables 4 < 32768 →
     Gives (search_run w turns) t (truth (is_among count t.bytes (t.variables 3) (t.variables 2) (t.variables 5)))
 among w count zero enough t sum few = absurd (omega (arith, enough))
 among w zero (suc turns) enough t sum few =
-    let over : goes_on w t ≡ is_found t false =
-    ap (is_found t) (small_less (t.variables 5) (t.variables 4) (omega (arith, sum, few)) few
+    let over : goes_on w t ≡ is_found t false = ap (is_found t) (small_less (t.variables 5) (t.variables 4) (omega (arith, sum, few)) few
     ∙ le-ltb (t.variables 5) (t.variables 4) (omega (arith, sum))) in record {
       behind = t;
       runs = both_done (for_run (goes_on w) (steps w) (turn w) (suc turns)) returns_0 t t
           (for_by (goes_on w) (steps w) (turn w) turns t false over);
       same = λ s. refl;
     }
-among w (suc count) (suc turns) enough t sum few =
-    among_by w count turns (among w count turns (omega (arith, enough))) t sum few
+among w (suc count) (suc turns) enough t sum few = among_by w count turns (among w count turns (omega (arith, enough))) t sum few
     (word_in t.bytes (t.variables 3) (t.variables 5) == t.variables 2) refl
 
 -- The number of classes is half the length of the data, which is 64 at most.
 
 count_few : (second : ℕ) → long_count second ≤ 64
-count_few second =
-    cond_both (second % 64 == 0) 64 (second % 64) (λ (n : ℕ). n ≤ 64) (λ e. omega arith) (λ e. omega arith)
+count_few second = cond_both (second % 64 == 0) 64 (second % 64) (λ (n : ℕ). n ≤ 64) (λ e. omega arith) (λ e. omega arith)
 
 size_few : (byte : ℕ) → size_by byte ≤ 64
 size_few byte =
     cond_both (nat_le 128 byte) (long_count byte) (1 + byte / 64 % 2) (λ (n : ℕ). n ≤ 64) (λ e. count_few byte) (λ e. omega arith)
 
 length_few : (m : Bytes) (start : ℕ) → length_in m start ≤ 64
-length_few m start =
-    cond_both (start == 0) 0 (size_by (byte_in m start 65535)) (λ (n : ℕ). n ≤ 64) (λ e. omega arith)
+length_few m start = cond_both (start == 0) 0 (size_by (byte_in m start 65535)) (λ (n : ℕ). n ≤ 64) (λ e. omega arith)
     (λ e. size_few (byte_in m start 65535))
 
 rows_enough : (n : ℕ) → n ≤ 64 → suc (n / 2) ≤ most_rows
@@ -183,22 +165,19 @@ unfolding most_rows
 rows_enough n few = omega (arith, few)
 
 half : (n : ℕ) → n < 32768 → divided n 2 ≡ Some (n / 2)
-half n few =
-    ap (λ (b : Bool). if same b true then Some ((if b then n else negated n) / magnitude 2)
+half n few = ap (λ (b : Bool). if same b true then Some ((if b then n else negated n) / magnitude 2)
     else Some (negated ((if b then n else negated n) / magnitude 2))) (lt-ltb n 32768 few)
 
 -- what a value that may be missing leaves in a variable
 abbrev stored_in : ℕ → Store → Option ℕ → Option (Outcome × Store)
-stored_in v s m =
-    (((m then λ n. answer (with_variable v) n s) then λ p. answer nobody (p.1.variables v) p.1) then λ p. Some p.1)
+stored_in v s m = (((m then λ n. answer (with_variable v) n s) then λ p. answer nobody (p.1.variables v) p.1) then λ p. Some p.1)
     then λ u. Some (Done, u)
 
 abbrev length_asked : World → Numbers → Effect
 length_asked w numbers = asked w (operand_in numbers of_class) GetPropLen (named.a ∷ []) (codes "n")
 
 abbrev halved : World → Effect
-halved w =
-    alone_run w (Two Binary.Assign (Leaf (Operand.Variable 4))
+halved w = alone_run w (Two Binary.Assign (Leaf (Operand.Variable 4))
     (Two (Binary.Operation Operation.Divide) (Leaf (Operand.Variable 4)) (Leaf (Operand.Known 2))) ∷ [])
 
 abbrev starts : World → Change
@@ -219,8 +198,7 @@ with_length t = with_variable 4 (length_in t.bytes (t.variables 3)) t
 abbrev with_half : Store → Store
 with_half t = with_variable 4 (length_in t.bytes (t.variables 3) / 2) (with_length t)
 
-list_searched : (w : World) (numbers : Numbers) (turns : ℕ) → most_rows ≤ turns → (t : Store) →
-    Gives (measured w numbers turns) t
+list_searched : (w : World) (numbers : Numbers) (turns : ℕ) → most_rows ≤ turns → (t : Store) → Gives (measured w numbers turns) t
     (truth (is_among (length_in t.bytes (t.variables 3) / 2) t.bytes (t.variables 3) (t.variables 2) 0))
 list_searched w numbers turns enough t =
     let length = length_in t.bytes (t.variables 3) in
@@ -245,22 +223,19 @@ list_found : (w : World) (numbers : Numbers) (turns : ℕ) → most_rows ≤ tur
     (truth (if b then false else is_among (length_in t.bytes (t.variables 3) / 2) t.bytes (t.variables 3) (t.variables 2) 0))
 list_found w numbers turns enough t true e =
     gives_there (no_list w) returns_0 (measured w numbers turns) t 0 (equal_is t (t.variables 3) 0 true e) refl
-list_found w numbers turns enough t false e =
-    gives_past (no_list w) returns_0 (measured w numbers turns) t
+list_found w numbers turns enough t false e = gives_past (no_list w) returns_0 (measured w numbers turns) t
     (truth (is_among (length_in t.bytes (t.variables 3) / 2) t.bytes (t.variables 3) (t.variables 2) 0))
     (equal_is t (t.variables 3) 0 false e) (list_searched w numbers turns enough t)
 
 -- Lemmas about whether an object is a class
 
 abbrev class_told : World → Truth
-class_told w =
-    truth_of w (Two Binary.Or (Two (Binary.Test Test.Equal) (One (Unary.Single Single.Parent) (Leaf (Operand.Variable 1)))
+class_told w = truth_of w (Two Binary.Or (Two (Binary.Test Test.Equal) (One (Unary.Single Single.Parent) (Leaf (Operand.Variable 1)))
     (Leaf (Operand.Known 1)))
     (Two (Binary.Test Test.Less) (Leaf (Operand.Variable 1)) (Leaf (Operand.Known 5))))
 
 abbrev class_kept : World → Effect
-class_kept w =
-    alone_run w (Two Binary.Assign (Leaf (Operand.Variable 4))
+class_kept w = alone_run w (Two Binary.Assign (Leaf (Operand.Variable 4))
     (Two Binary.Or (Two (Binary.Test Test.Equal) (One (Unary.Single Single.Parent) (Leaf (Operand.Variable 1))) (Leaf (Operand.Known 1)))
     (Two (Binary.Test Test.Less) (Leaf (Operand.Variable 1)) (Leaf (Operand.Known 5)))) ∷ [])
 
@@ -269,14 +244,12 @@ either_found s true c = refl
 either_found s false c = refl
 
 class_is : (w : World) → HasClasses w → (s : Store) → class_told w s ≡ is_found s (is_class_in s.bytes (s.variables 1))
-class_is w h s =
-    either_found s ((w.parent s (s.variables 1) == 1) || false) (less (s.variables 1) 5)
+class_is w h s = either_found s ((w.parent s (s.variables 1) == 1) || false) (less (s.variables 1) 5)
     ∙ ap (λ (b : Bool). is_found s (b || less (s.variables 1) 5)) (or_false (w.parent s (s.variables 1) == 1))
     ∙ ap (λ (o : ℕ). is_found s ((o == 1) || less (s.variables 1) 5)) (h.parent s (s.variables 1))
 
 abbrev truth_kept : Option (Bool × Store) → Option (Outcome × Store)
-truth_kept m =
-    (((m then λ p. answer (with_variable 4) (truth p.0) p.1) then λ p. answer nobody (p.1.variables 4) p.1) then λ p. Some p.1)
+truth_kept m = (((m then λ p. answer (with_variable 4) (truth p.0) p.1) then λ p. answer nobody (p.1.variables 4) p.1) then λ p. Some p.1)
     then λ u. Some (Done, u)
 
 truth_not : (b : Bool) → truth ((truth b == 0) || false) ≡ truth (not b)
@@ -345,14 +318,12 @@ object_found w numbers h turns enough t b known =
 -- The call: the kind of the object is asked for.
 
 abbrev kind_asked : World → Numbers → Effect
-kind_asked w numbers =
-    alone_run w (Two Binary.Assign (Leaf (Operand.Variable 5))
+kind_asked w numbers = alone_run w (Two Binary.Assign (Leaf (Operand.Variable 5))
     (Two Binary.Call (Leaf (Operand.Later (Target.Name (numbers (codes "Z__Region")))))
     (Leaf (Operand.Variable 1))) ∷ [])
 
 abbrev kind_stored : Option (ℕ × ℕ × Store) → Option (Outcome × Store)
-kind_stored m =
-    (((m then λ r. answer (with_variable 5) r.0 r.2) then λ p. answer nobody (p.1.variables 5) p.1) then λ p. Some p.1)
+kind_stored m = (((m then λ r. answer (with_variable 5) r.0 r.2) then λ p. answer nobody (p.1.variables 5) p.1) then λ p. Some p.1)
     then λ u. Some (Done, u)
 
 abbrev no_kind : World → Truth
@@ -362,8 +333,7 @@ abbrev no_object : World → Truth
 no_object w = tests w Test.Greater (Leaf (Operand.Variable 5)) (Leaf (Operand.Known 1))
 
 abbrev kind_compared : World → Effect
-kind_compared w =
-    return_run w (Two (Binary.Test Test.Equal) (Leaf (Operand.Variable 2))
+kind_compared w = return_run w (Two (Binary.Test Test.Equal) (Leaf (Operand.Variable 2))
     (Two (Binary.Operation Operation.Add) (Leaf (Operand.Variable 5)) (Leaf (Operand.Known 1))) ∷ [])
 
 abbrev for_object : World → Numbers → ℕ → Effect
@@ -408,8 +378,7 @@ class_is_told w numbers h calls turns enough o c s b few known =
 pub classes_are_told : ClassesAreTold
 classes_are_told w numbers h calls [] s n t e turns enough = absurd e
 classes_are_told w numbers h calls (o ∷ []) s n t e turns enough = absurd e
-classes_are_told w numbers h calls (o ∷ c ∷ []) s n t e turns enough =
-    class_is_told w numbers h calls turns enough o c s e.1.0 e.0 e.1.1
+classes_are_told w numbers h calls (o ∷ c ∷ []) s n t e turns enough = class_is_told w numbers h calls turns enough o c s e.1.0 e.0 e.1.1
     ∙ ap (λ (b : Bool). returns_with (truth b) s) (sym (h.classes s o c e.1.0 e.1.1))
     ∙ e.2
 classes_are_told w numbers h calls (o ∷ c ∷ x ∷ ns) s n t e turns enough = none_some e.2

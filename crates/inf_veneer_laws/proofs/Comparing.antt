@@ -45,10 +45,7 @@ same_side x y e = go (nat_lt x y) refl
 
 -- the result of the text, by its conditions
 abbrev text_order : ℕ → ℕ → ℕ
-text_order x y =
-    if x == y then 0
-    else if less x 0 && not (less y 0) then 1
-    else if not (less x 0) && less y 0 then 65535
+text_order x y = if x == y then 0 else if less x 0 && not (less y 0) then 1 else if not (less x 0) && less y 0 then 65535
     else if less y x then 1
     else 65535
 
@@ -57,23 +54,17 @@ order_by e a b c = if e then 0 else if a && not b then 1 else if not a && b then
 
 orders_by : (x y : ℕ) → x < 65536 → y < 65536 → (a b : Bool) → nat_le 32768 x ≡ a → nat_le 32768 y ≡ b →
     order_by (x == y) a b (less y x) ≡ order x y
-orders_by x y fx fy true true e f =
-    ap (λ (c : Bool). if x == y then 0 else if c then 1 else 65535)
-    (same_side y x
+orders_by x y fx fy true true e f = ap (λ (c : Bool). if x == y then 0 else if c then 1 else 65535) (same_side y x
     (omega (arith, above x (leb-true 32768 x e) fx, above y (leb-true 32768 y f) fy, leb-true 32768 x e, leb-true 32768 y f)))
-orders_by x y fx fy true false e f =
-    ap (λ (c : Bool). if x == y then 0 else if c then 1 else 65535)
+orders_by x y fx fy true false e f = ap (λ (c : Bool). if x == y then 0 else if c then 1 else 65535)
     (sym (lt-ltb y x (omega (arith, leb-true 32768 x e, leb-false 32768 y f))))
-orders_by x y fx fy false true e f =
-    ap (λ (c : Bool). if x == y then 0 else if c then 1 else 65535)
+orders_by x y fx fy false true e f = ap (λ (c : Bool). if x == y then 0 else if c then 1 else 65535)
     (sym (le-ltb y x (omega (arith, leb-false 32768 x e, leb-true 32768 y f))))
-orders_by x y fx fy false false e f =
-    ap (λ (c : Bool). if x == y then 0 else if c then 1 else 65535)
+orders_by x y fx fy false false e f = ap (λ (c : Bool). if x == y then 0 else if c then 1 else 65535)
     (same_side y x (omega (arith, below x (leb-false 32768 x e), below y (leb-false 32768 y f))))
 
 orders : (x y : ℕ) → x < 65536 → y < 65536 → text_order x y ≡ order x y
-orders x y fx fy =
-    ap (λ (a : Bool). order_by (x == y) a (less y 0) (less y x)) (negative_by x fx (nat_le 32768 x) refl)
+orders x y fx fy = ap (λ (a : Bool). order_by (x == y) a (less y 0) (less y x)) (negative_by x fx (nat_le 32768 x) refl)
     ∙ ap (λ (b : Bool). order_by (x == y) (nat_le 32768 x) b (less y x)) (negative_by y fy (nat_le 32768 y) refl)
     ∙ orders_by x y fx fy (nat_le 32768 x) (nat_le 32768 y) refl refl
 
@@ -92,13 +83,11 @@ abbrev same_numbers : World → Truth
 same_numbers w = tests w Test.Equal (Leaf (Operand.Variable 1)) (Leaf (Operand.Variable 2))
 
 abbrev first_negative : World → Truth
-first_negative w =
-    truth_of w (Two Binary.And (Two (Binary.Test Test.Less) (Leaf (Operand.Variable 1)) (Leaf (Operand.Known 0)))
+first_negative w = truth_of w (Two Binary.And (Two (Binary.Test Test.Less) (Leaf (Operand.Variable 1)) (Leaf (Operand.Known 0)))
     (Two (Binary.Test Test.AtLeast) (Leaf (Operand.Variable 2)) (Leaf (Operand.Known 0))))
 
 abbrev second_negative : World → Truth
-second_negative w =
-    truth_of w (Two Binary.And (Two (Binary.Test Test.AtLeast) (Leaf (Operand.Variable 1)) (Leaf (Operand.Known 0)))
+second_negative w = truth_of w (Two Binary.And (Two (Binary.Test Test.AtLeast) (Leaf (Operand.Variable 1)) (Leaf (Operand.Known 0)))
     (Two (Binary.Test Test.Less) (Leaf (Operand.Variable 2)) (Leaf (Operand.Known 0))))
 
 abbrev first_more : World → Truth
@@ -113,8 +102,7 @@ by_second w = both_run (if_run (second_negative w) (minus_returned w)) (by_signs
 abbrev by_first : World → Effect
 by_first w = both_run (if_run (first_negative w) (number_returned w 1)) (by_second w)
 
-compared : (w : World) (s : Store) →
-    both_run (if_run (same_numbers w) (number_returned w 0)) (by_first w) s
+compared : (w : World) (s : Store) → both_run (if_run (same_numbers w) (number_returned w 0)) (by_first w) s
     ≡ comes_to (Returned (text_order (s.variables 1) (s.variables 2))) s
 compared w s =
     let x = s.variables 1 in
@@ -142,8 +130,7 @@ numbers_compared w numbers turns x y s =
 pub numbers_are_compared : NumbersAreCompared
 numbers_are_compared w numbers [] s n t e turns enough = absurd e
 numbers_are_compared w numbers (x ∷ []) s n t e turns enough = absurd e
-numbers_are_compared w numbers (x ∷ y ∷ []) s n t e turns enough =
-    numbers_compared w numbers turns x y s
+numbers_are_compared w numbers (x ∷ y ∷ []) s n t e turns enough = numbers_compared w numbers turns x y s
     ∙ ap (λ (k : ℕ). returns_with k s) (orders x y e.0 e.1 ∙ sym e.2)
     ∙ ap (returns_with n) e.3
 numbers_are_compared w numbers (x ∷ y ∷ z ∷ ns) s n t e turns enough = absurd e

@@ -57,10 +57,7 @@ find_own_covered numbers = (
     (((tt, inl (lit≤ tt)), tt, tt), tt),
     (
       (tt, tt, (tt, tt, tt)),
-      (
-        ((tt, tt, tt), ((((tt, inl (lit≤ tt)), (tt, tt, tt), tt), (tt, tt, tt)), (tt, tt, (tt, (tt, tt, tt), (tt, tt, tt))))),
-        tt,
-      ),
+      (((tt, tt, tt), ((((tt, inl (lit≤ tt)), (tt, tt, tt), tt), (tt, tt, tt)), (tt, tt, (tt, (tt, tt, tt), (tt, tt, tt))))), tt),
     ),
   ),
 )
@@ -70,10 +67,7 @@ compare_covered numbers = (
   (((tt, inl (lit≤ tt)), tt, tt), tt),
   (
     ((tt, ((tt, inl (lit≤ tt)), tt, tt), ((tt, inl (lit≤ tt)), tt, tt)), tt),
-    (
-      ((tt, ((tt, inl (lit≤ tt)), tt, tt), ((tt, inl (lit≤ tt)), tt, tt)), tt),
-      ((((tt, inl (lit≤ tt)), tt, tt), tt), tt),
-    ),
+    (((tt, ((tt, inl (lit≤ tt)), tt, tt), ((tt, inl (lit≤ tt)), tt, tt)), tt), ((((tt, inl (lit≤ tt)), tt, tt), tt), tt)),
   ),
 )
 
@@ -110,10 +104,7 @@ of_class_covered numbers = (
                   tt,
                   (
                     (tt, tt, (tt, tt, tt)),
-                    (
-                      ((tt, tt, tt), ((tt, inl (lit≤ tt)), tt, tt), (tt, tt), (((tt, inl (lit≤ tt)), (tt, tt, tt), tt), tt)),
-                      tt,
-                    ),
+                    (((tt, tt, tt), ((tt, inl (lit≤ tt)), tt, tt), (tt, tt), (((tt, inl (lit≤ tt)), (tt, tt, tt), tt), tt)), tt),
                   ),
                 ),
               ),

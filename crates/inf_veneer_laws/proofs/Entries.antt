@@ -26,13 +26,11 @@ word_is_written : (w : World) (numbers : Numbers) (turns a i n : ℕ) (s : Store
 word_is_written w numbers turns a i n s = ap (returns_with n) (ap (word_written a i n) (entered_left (a ∷ i ∷ n ∷ []) s))
 
 write_byte_meets : (w : World) (numbers : Numbers) → Meets w numbers write_byte (IsSupplied w Veneer.WriteByte)
-write_byte_meets w numbers (a ∷ i ∷ v ∷ []) s n t e turns enough =
-    byte_is_written w numbers turns a i v s ∙ e
+write_byte_meets w numbers (a ∷ i ∷ v ∷ []) s n t e turns enough = byte_is_written w numbers turns a i v s ∙ e
 write_byte_meets w numbers other s n t e turns enough = none_some e
 
 write_word_meets : (w : World) (numbers : Numbers) → Meets w numbers write_word (IsSupplied w Veneer.WriteWord)
-write_word_meets w numbers (a ∷ i ∷ v ∷ []) s n t e turns enough =
-    word_is_written w numbers turns a i v s ∙ e
+write_word_meets w numbers (a ∷ i ∷ v ∷ []) s n t e turns enough = word_is_written w numbers turns a i v s ∙ e
 write_word_meets w numbers other s n t e turns enough = none_some e
 
 pub entries_are_written : EntriesAreWritten
@@ -57,10 +55,8 @@ step_result by new n = if new == 0 then n else (n + by) % 65536
 
 step_answered_by : (w : World) (s : Store) (b : Bool) → (s.variables 4 == 0) ≡ b →
     step_end w s ≡ comes_to (Returned (if b then s.variables 5 else (s.variables 5 + s.variables 3) % 65536)) s
-step_answered_by w s true e =
-    guard_passes (keeps_new w) (new_returned w) (old_returned w) s (ap (λ (b : Bool). is_found s (not b)) e)
-step_answered_by w s false e =
-    guard_returns (keeps_new w) (new_returned w) (old_returned w) s s ((s.variables 5 + s.variables 3) % 65536)
+step_answered_by w s true e = guard_passes (keeps_new w) (new_returned w) (old_returned w) s (ap (λ (b : Bool). is_found s (not b)) e)
+step_answered_by w s false e = guard_returns (keeps_new w) (new_returned w) (old_returned w) s s ((s.variables 5 + s.variables 3) % 65536)
     (ap (λ (b : Bool). is_found s (not b)) e) refl
 
 pub step_answered : (w : World) (s : Store) →
@@ -92,13 +88,11 @@ word_is_stepped w numbers turns a i d k s =
     ∙ ap (returns_with (step_result d k n)) (ap (word_written a i m) (one_local ns s 5 n refl))
 
 step_byte_meets : (w : World) (numbers : Numbers) → Meets w numbers step_byte (IsSupplied w Veneer.StepByte)
-step_byte_meets w numbers (a ∷ i ∷ d ∷ k ∷ []) s n t e turns enough =
-    byte_is_stepped w numbers turns a i d k s ∙ e
+step_byte_meets w numbers (a ∷ i ∷ d ∷ k ∷ []) s n t e turns enough = byte_is_stepped w numbers turns a i d k s ∙ e
 step_byte_meets w numbers other s n t e turns enough = none_some e
 
 step_word_meets : (w : World) (numbers : Numbers) → Meets w numbers step_word (IsSupplied w Veneer.StepWord)
-step_word_meets w numbers (a ∷ i ∷ d ∷ k ∷ []) s n t e turns enough =
-    word_is_stepped w numbers turns a i d k s ∙ e
+step_word_meets w numbers (a ∷ i ∷ d ∷ k ∷ []) s n t e turns enough = word_is_stepped w numbers turns a i d k s ∙ e
 step_word_meets w numbers other s n t e turns enough = none_some e
 
 pub entries_are_stepped : EntriesAreStepped

@@ -52,11 +52,9 @@ guard_returns holds body rest s t n e f = both_returns (if_run holds body) rest 
 
 -- Lemmas about turns of a loop
 
-while_by : (holds : Truth) (body : Effect) (turns : ℕ) (s : Store) (b : Bool) → holds s ≡ is_found s b →
-    while_run holds body (suc turns) s
+while_by : (holds : Truth) (body : Effect) (turns : ℕ) (s : Store) (b : Bool) → holds s ≡ is_found s b → while_run holds body (suc turns) s
     ≡ (if b then (body s then λ r. behind_turn (while_run holds body turns) r.0 r.1) else comes_to Done s)
-while_by holds body turns s b e =
-    ap (λ (o : Option (Bool × Store)). o then λ p.
+while_by holds body turns s b e = ap (λ (o : Option (Bool × Store)). o then λ p.
     if p.0 then (body p.1 then λ r. behind_turn (while_run holds body turns) r.0 r.1) else Some (Done, p.1)) e
 
 turn_by : (holds : Truth) (body : Effect) (turns : ℕ) (s : Store) (m : Option (Outcome × Store)) → body s ≡ m →
@@ -69,10 +67,8 @@ while_ends holds body turns s e = while_by holds body turns s false e
 
 pub while_turns : (holds : Truth) (body : Effect) (turns : ℕ) (s t : Store) → holds s ≡ is_found s true → body s ≡ comes_to Done t →
     while_run holds body (suc turns) s ≡ while_run holds body turns t
-while_turns holds body turns s t e f =
-    while_by holds body turns s true e ∙ turn_by holds body turns s (comes_to Done t) f
+while_turns holds body turns s t e f = while_by holds body turns s true e ∙ turn_by holds body turns s (comes_to Done t) f
 
 pub while_returns : (holds : Truth) (body : Effect) (turns : ℕ) (s t : Store) (n : ℕ) → holds s ≡ is_found s true →
     body s ≡ comes_to (Returned n) t → while_run holds body (suc turns) s ≡ comes_to (Returned n) t
-while_returns holds body turns s t n e f =
-    while_by holds body turns s true e ∙ turn_by holds body turns s (comes_to (Returned n) t) f
+while_returns holds body turns s t n e f = while_by holds body turns s true e ∙ turn_by holds body turns s (comes_to (Returned n) t) f

@@ -84,26 +84,14 @@ of_class_gathered CharSet.Ascii limit numbers = (
   refl,
   (
     (refl, tt),
-    (
-      (refl, refl),
-      (
-        refl,
-        ((refl, refl), ((refl, refl), (tt, ((refl, tt), (tt, (refl, ((refl, refl, refl, (refl, tt)), tt))))))),
-      ),
-    ),
+    ((refl, refl), (refl, ((refl, refl), ((refl, refl), (tt, ((refl, tt), (tt, (refl, ((refl, refl, refl, (refl, tt)), tt))))))))),
   ),
 )
 of_class_gathered CharSet.Latin1 limit numbers = (
   refl,
   (
     (refl, tt),
-    (
-      (refl, refl),
-      (
-        refl,
-        ((refl, refl), ((refl, refl), (tt, ((refl, tt), (tt, (refl, ((refl, refl, refl, (refl, tt)), tt))))))),
-      ),
-    ),
+    ((refl, refl), (refl, ((refl, refl), ((refl, refl), (tt, ((refl, tt), (tt, (refl, ((refl, refl, refl, (refl, tt)), tt))))))))),
   ),
 )
 

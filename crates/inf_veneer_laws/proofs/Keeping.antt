@@ -24,16 +24,13 @@ ends_alike s t (Some r) = result_alike s t r.1 r.0
 
 run_alike : (w : World) (known : List ℕ → Operand) (turns : ℕ) (r : Routine) (ns : List ℕ) (s t : Store) →
     called_by w known turns r ns (left t s) ≡ with_them t (called_by w known turns r ns s)
-run_alike w known turns r ns s t =
-    ap (λ (u : Store). effect turns (control w known r.body) u then ended (left t s)) (entered_alike ns s t)
+run_alike w known turns r ns s t = ap (λ (u : Store). effect turns (control w known r.body) u then ended (left t s)) (entered_alike ns s t)
     ∙ ends_alike s t (effect turns (control w known r.body) (entered ns s))
 
 message_alike : (w : World) (numbers : Numbers) (action : Option Operand) (turns : ℕ) (ns : List ℕ) (s t : Store) →
     message_called w numbers action turns ns (left t s) ≡ with_them t (message_called w numbers action turns ns s)
-message_alike w numbers None turns ns s t =
-    run_alike w (message_names numbers Operand.Unknown) turns (on_side false send_message) ns s t
-message_alike w numbers (Some x) turns ns s t =
-    run_alike w (message_names numbers x) turns (on_side true send_message) ns s t
+message_alike w numbers None turns ns s t = run_alike w (message_names numbers Operand.Unknown) turns (on_side false send_message) ns s t
+message_alike w numbers (Some x) turns ns s t = run_alike w (message_names numbers x) turns (on_side true send_message) ns s t
 
 left_alike : (t : Store) (m : Option (ℕ × Store)) → with_left (with_them t m) ≡ with_locals t (with_left m)
 left_alike t None = refl

@@ -33,35 +33,20 @@ message_is_covered numbers action true = (
     (tt, tt, ((refl, tt, tt))),
     (
       (((tt, inl (lit≤ tt)), ((refl, lit≤ tt), tt, tt), tt), tt),
-      (
-        (((tt, inl (lit≤ tt)), ((refl, lit≤ tt), tt, tt), tt), tt),
-        ((tt, tt, tt), ((tt, tt, tt), ((tt, tt, tt), (tt, tt, tt)))),
-      ),
+      ((((tt, inl (lit≤ tt)), ((refl, lit≤ tt), tt, tt), tt), tt), ((tt, tt, tt), ((tt, tt, tt), ((tt, tt, tt), (tt, tt, tt))))),
     ),
   ),
-  (
-    (tt, tt, tt),
-    (
-      (tt, tt, ((refl, lit≤ tt), tt, (tt, tt, (tt, tt, (tt, tt, (tt, tt, tt)))))),
-      ((tt, tt, tt), ((tt, tt, tt), tt)),
-    ),
-  ),
+  ((tt, tt, tt), ((tt, tt, ((refl, lit≤ tt), tt, (tt, tt, (tt, tt, (tt, tt, (tt, tt, tt)))))), ((tt, tt, tt), ((tt, tt, tt), tt)))),
 )
 message_is_covered numbers action false = (
   (
     (tt, tt, ((refl, tt, tt))),
     (
       (((tt, inl (lit≤ tt)), ((refl, lit≤ tt), tt, tt), tt), tt),
-      (
-        (((tt, inl (lit≤ tt)), ((refl, lit≤ tt), tt, tt), tt), tt),
-        ((tt, tt, tt), ((tt, tt, tt), ((tt, tt, tt), (tt, tt, tt)))),
-      ),
+      ((((tt, inl (lit≤ tt)), ((refl, lit≤ tt), tt, tt), tt), tt), ((tt, tt, tt), ((tt, tt, tt), ((tt, tt, tt), (tt, tt, tt))))),
     ),
   ),
-  (
-    (tt, tt, ((refl, lit≤ tt), tt, (tt, tt, (tt, tt, (tt, tt, (tt, tt, tt)))))),
-    ((tt, tt, tt), ((tt, tt, tt), tt)),
-  ),
+  ((tt, tt, ((refl, lit≤ tt), tt, (tt, tt, (tt, tt, (tt, tt, (tt, tt, tt)))))), ((tt, tt, tt), ((tt, tt, tt), tt))),
 )
 
 abbrev before_is_gathered : CharSet → Type 0
@@ -70,10 +55,8 @@ before_is_gathered set =
 
 before_gathered : (set : CharSet) → before_is_gathered set
 unfolding digits next_place order
-before_gathered CharSet.Ascii limit numbers action =
-    (refl, ((refl, refl), ((refl, refl), (refl, (refl, (refl, refl))))))
-before_gathered CharSet.Latin1 limit numbers action =
-    (refl, ((refl, refl), ((refl, refl), (refl, (refl, (refl, refl))))))
+before_gathered CharSet.Ascii limit numbers action = (refl, ((refl, refl), ((refl, refl), (refl, (refl, (refl, refl))))))
+before_gathered CharSet.Latin1 limit numbers action = (refl, ((refl, refl), ((refl, refl), (refl, (refl, (refl, refl))))))
 
 behind_gathered : (set : CharSet) (limit : ℕ) (numbers : Numbers) (action : Operand) →
     Gathers set limit (message_names numbers action) send_message.behind

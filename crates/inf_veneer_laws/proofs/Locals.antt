@@ -9,8 +9,7 @@ abbrev with_variables : (ℕ → ℕ) → Store → Store
 with_variables f s = record s { variables = f }
 
 other_variable : (v k : ℕ) → is_local k ≡ true → is_local v ≡ false → (v == k) ≡ false
-other_variable v k known other =
-    false_from_ne_true (v == k) (λ e. both_ways (is_local v) other (ap is_local (eqb-true v k e) ∙ known))
+other_variable v k known other = false_from_ne_true (v == k) (λ e. both_ways (is_local v) other (ap is_local (eqb-true v k e) ∙ known))
 
 only_false : (b : Bool) (x y z : ℕ) → (b ≡ false → y ≡ z) → (if b then x else y) ≡ (if b then x else z)
 only_false true x y z h = refl
@@ -82,9 +81,7 @@ self_left s =
 
 -- A variable that is no local is the same where two stores differ in locals alone.
 pub outside : (l s t : Store) (v : ℕ) → is_local v ≡ false → left l s ≡ left l t → s.variables v ≡ t.variables v
-outside l s t v outer e =
-    sym (ap (λ (b : Bool). if b then l.variables v else s.variables v) outer)
-    ∙ ap (λ (u : Store). u.variables v) e
+outside l s t v outer e = sym (ap (λ (b : Bool). if b then l.variables v else s.variables v) outer) ∙ ap (λ (u : Store). u.variables v) e
     ∙ ap (λ (b : Bool). if b then l.variables v else t.variables v) outer
 
 -- The store that a call begins with has none of the caller's locals.

@@ -37,8 +37,7 @@ abbrev row_returned : World → Effect
 row_returned w = return_run w (sum_of place (Leaf (Operand.Known 2)) ∷ [])
 
 abbrev goes_on : World → Effect
-goes_on w =
-    alone_run w (Two Binary.Assign place (sum_of (sum_of place (Leaf (Operand.Known 3)))
+goes_on w = alone_run w (Two Binary.Assign place (sum_of (sum_of place (Leaf (Operand.Known 3)))
     (Two (Binary.Operation Operation.Byte) place (Leaf (Operand.Known 2)))) ∷ [])
 
 abbrev turn : World → Effect
@@ -76,8 +75,7 @@ found_by : (w : World) (most turns : ℕ) →
     Finds w (suc turns) t n
 found_by w most turns later t n true c e f g = record {
   behind = t;
-  runs =
-      both_done (looks w (suc turns)) returns_0 t t (while_ends (has_row w) (turn w) turns t (ap (λ (b : Bool). is_found t (not b)) e))
+  runs = both_done (looks w (suc turns)) returns_0 t t (while_ends (has_row w) (turn w) turns t (ap (λ (b : Bool). is_found t (not b)) e))
       ∙ ap (λ (x : ℕ). comes_to (Returned x) t) (same_some g);
   same = λ s. refl;
 }
@@ -85,16 +83,14 @@ found_by w most turns later t n false true e f g =
     let there = (t.variables 3 + 2) % 65536 in
     let returned : turn w t ≡ comes_to (Returned there) t =
     guard_returns (is_row w) (row_returned w) (goes_on w) t t there (row_is w t true f) refl in
-    let looked =
-    while_returns (has_row w) (turn w) turns t t there (ap (λ (b : Bool). is_found t (not b)) e) returned in record {
+    let looked = while_returns (has_row w) (turn w) turns t t there (ap (λ (b : Bool). is_found t (not b)) e) returned in record {
       behind = t;
       runs = both_returns (looks w (suc turns)) returns_0 t t there looked ∙ ap (λ (x : ℕ). comes_to (Returned x) t) (same_some g);
       same = λ s. refl;
     }
 found_by w most turns later t n false false e f g =
     let r = later (next_store t) n g in
-    let went : turn w t ≡ comes_to Done (next_store t) =
-    guard_passes (is_row w) (row_returned w) (goes_on w) t (row_is w t false f) in
+    let went : turn w t ≡ comes_to Done (next_store t) = guard_passes (is_row w) (row_returned w) (goes_on w) t (row_is w t false f) in
     let turned = while_turns (has_row w) (turn w) turns t (next_store t) (ap (λ (b : Bool). is_found t (not b)) e) went in record {
       behind = r.behind;
       runs = both_same (looks w (suc turns)) (looks w turns) returns_0 t (next_store t) turned ∙ r.runs;
@@ -140,16 +136,14 @@ found_behind : (w : World) (turns : ℕ) → most_rows ≤ turns → (t : Store)
     FindsBehind w turns t n
 found_behind w turns enough t n true e f = record {
   behind = t;
-  runs =
-      guard_returns (is_zero w) returns_0 (starts_and_looks w turns) t t 0 (zero_is w t true e) refl
+  runs = guard_returns (is_zero w) returns_0 (starts_and_looks w turns) t t 0 (zero_is w t true e) refl
       ∙ ap (λ (x : ℕ). comes_to (Returned x) t) (same_some f);
   same = λ s. refl;
 }
 found_behind w turns enough t n false e f =
     let r = found w most_rows turns enough (with_start t) n f in record {
       behind = r.behind;
-      runs =
-          guard_passes (is_zero w) returns_0 (starts_and_looks w turns) t (zero_is w t false e)
+      runs = guard_passes (is_zero w) returns_0 (starts_and_looks w turns) t (zero_is w t false e)
           ∙ both_done (starts w) (both_run (looks w turns) returns_0) t (with_start t) refl
           ∙ r.runs;
       same = λ s. r.same s ∙ local_left s t 3 (word_in t.bytes (t.variables 3) 0) refl;

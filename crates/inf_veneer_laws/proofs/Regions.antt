@@ -15,8 +15,7 @@ use Rattle.inf_veneer_laws.proofs.Flow.{comes_to, is_found, or_false, returns_wi
 
 -- Lemmas about the order of two numbers against 0
 
-at_most_by : (x y : ℕ) (b c : Bool) → (x == y) ≡ b → nat_lt y x ≡ c →
-    not (less 0 (if b then 0 else if c then 1 else 65535)) ≡ nat_le x y
+at_most_by : (x y : ℕ) (b c : Bool) → (x == y) ≡ b → nat_lt y x ≡ c → not (less 0 (if b then 0 else if c then 1 else 65535)) ≡ nat_le x y
 at_most_by x y true c e f = sym (le-leb x y (omega (arith, eqb-true x y e)))
 at_most_by x y false true e f = sym (lt-leb x y (ltb-true y x f))
 at_most_by x y false false e f = sym (le-leb x y (ltb-false y x f))
@@ -27,8 +26,7 @@ at_most x y = at_most_by x y (x == y) (nat_lt y x) refl refl
 less_if_other : (x y : ℕ) → (x ≡ y → ⊥) → nat_lt y x ≡ false → x < y
 less_if_other x y other e = omega (arith, other, ltb-false y x e)
 
-at_least_by : (x y : ℕ) (b c : Bool) → (x == y) ≡ b → nat_lt y x ≡ c →
-    not (less (if b then 0 else if c then 1 else 65535) 0) ≡ nat_le y x
+at_least_by : (x y : ℕ) (b c : Bool) → (x == y) ≡ b → nat_lt y x ≡ c → not (less (if b then 0 else if c then 1 else 65535) 0) ≡ nat_le y x
 at_least_by x y true c e f = sym (le-leb y x (omega (arith, eqb-true x y e)))
 at_least_by x y false true e f = sym (le-leb y x (omega (arith, ltb-true y x f)))
 at_least_by x y false false e f = sym (lt-leb y x (less_if_other x y (eqb-false x y e) f))
@@ -39,8 +37,7 @@ at_least x y = at_least_by x y (x == y) (nat_lt y x) refl refl
 -- A condition that compares the number in variable 1 with one of the story
 
 abbrev compares : World → Numbers → Test → SystemConstant → Truth
-compares w numbers t c =
-    tests w t (Two Binary.Call (Leaf (Operand.Later (Target.Name (numbers (codes "Unsigned__Compare")))))
+compares w numbers t c = tests w t (Two Binary.Call (Leaf (Operand.Later (Target.Name (numbers (codes "Unsigned__Compare")))))
     (Two Binary.Then (Leaf (Operand.Variable 1)) (Leaf (Operand.Later (Target.System c))))) (Leaf (Operand.Known 0))
 
 abbrev tested_by : World → Test → Store → Option (ℕ × ℕ × Store) → Option (Bool × Store)

@@ -29,15 +29,13 @@ abbrev placed : ℕ → ℕ → Store → Store
 placed o q s = with_variable 253 o (with_variable 252 q s)
 
 held_gone : (v q r : ℕ) (ns : List ℕ) (s l : Store) → left l (held v q r ns s) ≡ left l s
-held_gone v q r ns s l =
-    local_left l (with_variable 9 q (with_variable 8 v (entered ns s))) 10 r refl
+held_gone v q r ns s l = local_left l (with_variable 9 q (with_variable 8 v (entered ns s))) 10 r refl
     ∙ local_left l (with_variable 8 v (entered ns s)) 9 q refl
     ∙ local_left l (entered ns s) 8 v refl
     ∙ entered_gone ns l s
 
 placed_left : (o q : ℕ) (l s : Store) → left l (placed o q s) ≡ placed o q (left l s)
-placed_left o q l s =
-    global_left l (with_variable 252 q s) 253 o refl ∙ ap (with_variable 253 o) (global_left l s 252 q refl)
+placed_left o q l s = global_left l (with_variable 252 q s) 253 o refl ∙ ap (with_variable 253 o) (global_left l s 252 q refl)
 
 acted_left : (m o q : ℕ) (l s : Store) → left l (with_variable 251 m (placed o q s)) ≡ with_variable 251 m (placed o q (left l s))
 acted_left m o q l s = global_left l (placed o q s) 251 m refl ∙ ap (with_variable 251 m) (placed_left o q l s)
@@ -51,14 +49,12 @@ abbrev Leaves : (Store → Store) → Type 0
 Leaves g = (l s : Store) → left l (g s) ≡ g (left l s)
 
 fits : (g : Store → Store) → Leaves g → (base s : Store) → left (g base) base ≡ left (g base) s → left (g base) (g s) ≡ g base
-fits g leaves base s gone =
-    leaves (g base) s ∙ ap g (sym gone) ∙ sym (leaves (g base) base) ∙ self_left (g base)
+fits g leaves base s gone = leaves (g base) s ∙ ap g (sym gone) ∙ sym (leaves (g base) base) ∙ self_left (g base)
 
 called_there : (w : World) → KeepsLocals w → (g : Store → Store) → Leaves g → (base s : Store) →
     left (g base) base ≡ left (g base) s → (f : ℕ) (ns : List ℕ) (r : ℕ × ℕ × Store) → w.called (g s) f ns ≡ Some r →
     w.called (g base) f ns ≡ Some (r.0, r.1, left (g base) r.2)
-called_there w k g leaves base s gone f ns r e =
-    ap (λ (u : Store). w.called u f ns) (sym (fits g leaves base s gone))
+called_there w k g leaves base s gone f ns r e = ap (λ (u : Store). w.called u f ns) (sym (fits g leaves base s gone))
     ∙ k.keeps (g s) (g base) f ns
     ∙ ap (with_locals (g base)) e
 
@@ -76,13 +72,11 @@ abbrev ran : World → Numbers → Operand → ℕ → Statement → Effect
 ran w numbers x turns statement = effect turns (control w (message_names numbers x) statement)
 
 abbrev call_stored : Option (ℕ × ℕ × Store) → Option (Outcome × Store)
-call_stored m =
-    (((m then λ r. answer (with_variable 8) r.0 r.2) then λ p. answer nobody (p.1.variables 8) p.1) then λ p. Some p.1)
+call_stored m = (((m then λ r. answer (with_variable 8) r.0 r.2) then λ p. answer nobody (p.1.variables 8) p.1) then λ p. Some p.1)
     then λ u. Some (Done, u)
 
 abbrev set_back : World → Numbers → Operand → ℕ → Effect
-set_back w numbers x turns =
-    both_run (ran w numbers x turns (Evaluate (assigned named.own_object named.s)))
+set_back w numbers x turns = both_run (ran w numbers x turns (Evaluate (assigned named.own_object named.s)))
     (both_run (ran w numbers x turns (Evaluate (assigned named.sender named.t))) (ran w numbers x turns (Return routines.x)))
 
 abbrev routine_ran : World → Numbers → Operand → ℕ → Effect
@@ -96,8 +90,7 @@ record Answers (e : Effect) (s now : Store) (n : ℕ) (u : Store) : Type 0 where
 
 back_left : (s u l : Store) (n q r : ℕ) → left s u ≡ u →
     left s (with_variable 252 r (with_variable 253 q (with_variable 8 n (left l u)))) ≡ with_variable 252 r (with_variable 253 q u)
-back_left s u l n q r kept =
-    global_left s (with_variable 253 q (with_variable 8 n (left l u))) 252 r refl
+back_left s u l n q r kept = global_left s (with_variable 253 q (with_variable 8 n (left l u))) 252 r refl
     ∙ ap (with_variable 252 r) (global_left s (with_variable 8 n (left l u)) 253 q refl)
     ∙ ap (λ (x : Store). with_variable 252 r (with_variable 253 q x)) (local_left s (left l u) 8 n refl ∙ left_twice s l u ∙ kept)
 
@@ -148,15 +141,13 @@ answered_acted w k numbers x turns o p v m ns s r e =
 -- The name `action` stands for the same where stores differ in locals alone.
 read_alike : (w : World) (x : Operand) → IsOuter (Some x) → (l s t : Store) → left l s ≡ left l t → read w x s ≡ read w x t
 read_alike w (Operand.Known n) outer l s t e = refl
-read_alike w (Operand.Variable v) outer l s t e =
-    ap (λ (n : ℕ). if is_own v then None else Some n) (outside l s t v outer e)
+read_alike w (Operand.Variable v) outer l s t e = ap (λ (n : ℕ). if is_own v then None else Some n) (outside l s t v outer e)
 read_alike w (Operand.Later c) outer l s t e = refl
 read_alike w (Operand.Function f) outer l s t e = absurd outer
 read_alike w Operand.Unknown outer l s t e = absurd outer
 
 abbrev action_stored : Store → Option ℕ → Option (Outcome × Store)
-action_stored s m =
-    (((m then λ n. answer (with_variable 251) n s) then λ p. answer nobody (p.1.variables 251) p.1) then λ p. Some p.1)
+action_stored s m = (((m then λ n. answer (with_variable 251) n s) then λ p. answer nobody (p.1.variables 251) p.1) then λ p. Some p.1)
     then λ u. Some (Done, u)
 
 abbrev side_ran : World → Numbers → Operand → ℕ → Effect
@@ -186,8 +177,7 @@ abbrev no_routine : World → Numbers → Truth
 no_routine w numbers = truth_of w (Two (Binary.Fails Test.Equal) (kind_of w numbers) (Leaf (Operand.Known 2)))
 
 abbrev tested_by : World → ℕ → Store → Option (ℕ × ℕ × Store) → Option (Bool × Store)
-tested_by w n s m =
-    tested w Test.Equal (record { leaf = None; value = λ u. m then λ r. answer nobody r.0 r.2 } ∷ number n ∷ []) s
+tested_by w n s m = tested w Test.Equal (record { leaf = None; value = λ u. m then λ r. answer nobody r.0 r.2 } ∷ number n ∷ []) s
 
 abbrev failed_by : World → ℕ → Store → Option (ℕ × ℕ × Store) → Option (Bool × Store)
 failed_by w n s m =
@@ -211,8 +201,7 @@ routine_is w numbers calls s few =
 -- The statements in front of the directive, behind the first one
 
 abbrev own_set : World → Numbers → Operand → ℕ → Effect
-own_set w numbers x turns =
-    both_run (ran w numbers x turns (Evaluate (assigned named.s named.own_object)))
+own_set w numbers x turns = both_run (ran w numbers x turns (Evaluate (assigned named.s named.own_object)))
     (both_run (ran w numbers x turns (Evaluate (assigned named.t named.sender)))
     (both_run (ran w numbers x turns (Evaluate (assigned named.sender named.own_object)))
     (ran w numbers x turns (Evaluate (assigned named.own_object routines.o)))))
@@ -242,8 +231,7 @@ sent_by w numbers calls x turns next o p v ns s few true is_routine e f n u m an
     (string_is w numbers calls now few ∙ ap (is_found now) e) refl in
     record {
       behind = told;
-      runs = both_returns (by_value w numbers x turns) next now told 1 ends
-          ∙ ap (λ (k : ℕ × Store). comes_to (Returned k.0) told) r;
+      runs = both_returns (by_value w numbers x turns) next now told 1 ends ∙ ap (λ (k : ℕ × Store). comes_to (Returned k.0) told) r;
       same = ap (string_told v) (one_local (o ∷ p ∷ ns) s 8 v refl) ∙ ap (λ (k : ℕ × Store). k.1) r;
     }
 sent_by w numbers calls x turns next o p v ns s few false false e f n u m answers known =
@@ -258,8 +246,7 @@ sent_by w numbers calls x turns next o p v ns s few false false e f n u m answer
     ∙ other in
     record {
       behind = now;
-      runs = both_returns (by_value w numbers x turns) next now now v ends
-          ∙ ap (λ (k : ℕ × Store). comes_to (Returned k.0) now) r;
+      runs = both_returns (by_value w numbers x turns) next now now v ends ∙ ap (λ (k : ℕ × Store). comes_to (Returned k.0) now) r;
       same = one_local (o ∷ p ∷ ns) s 8 v refl ∙ ap (λ (k : ℕ × Store). k.1) r;
     }
 sent_by w numbers calls x turns next o p v ns s few false true e f n u m answers known =
@@ -271,11 +258,7 @@ sent_by w numbers calls x turns next o p v ns s few false true e f n u m answers
     (string_is w numbers calls now few ∙ ap (is_found now) e)
     ∙ guard_passes (no_routine w numbers) (value_returned w) (own_set w numbers x turns) now
     (routine_is w numbers calls now few ∙ ap (λ (b : Bool). is_found now (not b)) f) in
-    record {
-      behind = a.behind;
-      runs = both_done (by_value w numbers x turns) next now set goes ∙ a.runs;
-      same = a.same;
-    }
+    record { behind = a.behind; runs = both_done (by_value w numbers x turns) next now set goes ∙ a.runs; same = a.same }
 
 -- Lemmas about the calls
 

@@ -3,7 +3,7 @@ use Rattle.std.proofs.Common.{◌≡◌, ℕ, [], ◌∷◌, Some, refl}
 use Rattle.std.specs.Fmt.{digits}
 use Rattle.inf_characters.specs.declared.characters.CharSet.{CharSet}
 use Rattle.inf_machine.specs.Machine.{read}
-use Rattle.inf_syntax.specs.Parts.{piece}
+use Rattle.inf_syntax.specs.declared.parts.names.TheConstants as Part
 use Rattle.inf_grammar.specs.Language.{grammar, known}
 use Rattle.inf_veneer_laws.specs.Events.{TextsAreRead, atoms_of, routine_events, text_atoms}
 use Rattle.inf_veneer_laws.specs.Routines.{compare, count_children, find_own, of_class, property_address, property_length}
@@ -15,7 +15,7 @@ abbrev HasTokens : Routine → Type 0
 HasTokens r = (set : CharSet) (limit : ℕ) → text_atoms set limit (routine_spelled r) ≡ atoms_of (routine_events r)
 
 abbrev HasEvents : Routine → Type 0
-HasEvents r = read grammar known (piece ∷ []) (atoms_of (routine_events r)) ≡ Some (record { events = routine_events r; left = [] })
+HasEvents r = read grammar known (Part.PIECE ∷ []) (atoms_of (routine_events r)) ≡ Some (record { events = routine_events r; left = [] })
 
 write_byte_tokens : HasTokens write_byte
 unfolding digits

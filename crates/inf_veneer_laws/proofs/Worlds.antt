@@ -61,8 +61,7 @@ left_behind s t (Some r) = ap (kept_with r.0 r.1) (left_through s t r.2)
 pub worlds_keep_locals : WorldsKeepLocals
 worlds_keep_locals w = (
   record {
-    keeps = λ s t f ns.
-        ap (λ (u : Store). with_locals (left t s) (w.called u f ns)) (entered_alike [] s t)
+    keeps = λ s t f ns. ap (λ (u : Store). with_locals (left t s) (w.called u f ns)) (entered_alike [] s t)
         ∙ left_behind s t (w.called (entered [] s) f ns);
   },
   λ h. record {

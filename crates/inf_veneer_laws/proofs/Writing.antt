@@ -23,8 +23,7 @@ abbrev has_data : World → Truth
 has_data w = truth_of w (Leaf (Operand.Variable 4))
 
 abbrev data_written : World → Effect
-data_written w =
-    alone_run w (Two Binary.Assign (Two (Binary.Operation Operation.Word) (Leaf (Operand.Variable 4)) (Leaf (Operand.Known 0)))
+data_written w = alone_run w (Two Binary.Assign (Two (Binary.Operation Operation.Word) (Leaf (Operand.Variable 4)) (Leaf (Operand.Known 0)))
     (Leaf (Operand.Variable 3)) ∷ [])
 
 abbrev value_returned : World → Effect
@@ -33,10 +32,8 @@ value_returned w = return_run w (Leaf (Operand.Variable 3) ∷ [])
 written_if : (w : World) (s : Store) (b : Bool) → (s.variables 4 == 0) ≡ b →
     both_run (if_run (has_data w) (data_written w)) (value_returned w) s
     ≡ comes_to (Returned (s.variables 3)) (if b then s else word_written (s.variables 4) 0 (s.variables 3) s)
-written_if w s true e =
-    guard_passes (has_data w) (data_written w) (value_returned w) s (ap (λ (b : Bool). is_found s (not b)) e)
-written_if w s false e =
-    guard_does (has_data w) (data_written w) (value_returned w) s (word_written (s.variables 4) 0 (s.variables 3) s)
+written_if w s true e = guard_passes (has_data w) (data_written w) (value_returned w) s (ap (λ (b : Bool). is_found s (not b)) e)
+written_if w s false e = guard_does (has_data w) (data_written w) (value_returned w) s (word_written (s.variables 4) 0 (s.variables 3) s)
     (ap (λ (b : Bool). is_found s (not b)) e) refl
 
 -- Locals that were written in between make no difference behind the call.
@@ -73,13 +70,11 @@ abbrev call_done : Option (ℕ × ℕ × Store) → Option (Outcome × Store)
 call_done m = ((m then λ r. answer nobody r.0 r.2) then λ p. Some p.1) then λ u. Some (Done, u)
 
 abbrev sum_written : World → Numbers → Effect
-sum_written w numbers =
-    alone_run w (Two Binary.Call (Leaf (Operand.Later (Target.Name (numbers (codes "WV__Pr")))))
+sum_written w numbers = alone_run w (Two Binary.Call (Leaf (Operand.Later (Target.Name (numbers (codes "WV__Pr")))))
     (Two Binary.Then (Leaf (Operand.Variable 1)) (Two Binary.Then (Leaf (Operand.Variable 2))
     (Two (Binary.Operation Operation.Add) (Leaf (Operand.Variable 5)) (Leaf (Operand.Variable 3))))) ∷ [])
 
-answered_behind : (w : World) (s : Store) (start m : ℕ) (b : Bool) →
-    step_end w (if b then s else word_written start 0 m s)
+answered_behind : (w : World) (s : Store) (start m : ℕ) (b : Bool) → step_end w (if b then s else word_written start 0 m s)
     ≡ comes_to (Returned (step_result (s.variables 3) (s.variables 4) (s.variables 5))) (if b then s else word_written start 0 m s)
 answered_behind w s start m true = step_answered w s
 answered_behind w s start m false = step_answered w (word_written start 0 m s)
@@ -156,8 +151,7 @@ property_is_told w numbers h calls turns o p start s known =
 pub properties_are_provided : PropertiesAreProvided
 properties_are_provided w numbers h calls [] s n t e turns enough = absurd e.0
 properties_are_provided w numbers h calls (o ∷ []) s n t e turns enough = absurd e.0
-properties_are_provided w numbers h calls (o ∷ p ∷ []) s n t e turns enough =
-    property_is_told w numbers h calls turns o p e.0.0 s e.0.1
+properties_are_provided w numbers h calls (o ∷ p ∷ []) s n t e turns enough = property_is_told w numbers h calls turns o p e.0.0 s e.0.1
     ∙ ap (λ (b : Bool). returns_with (truth b) s) (sym (h.provides s o p e.0.0 e.0.1))
     ∙ e.1
 properties_are_provided w numbers h calls (o ∷ p ∷ x ∷ ns) s n t e turns enough = none_some e.1

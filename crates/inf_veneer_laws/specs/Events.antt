@@ -7,7 +7,8 @@ use Rattle.inf_expressions.specs.declared.{operators.PropertyPart.PropertyPart, 
 use Rattle.inf_expressions.specs.declared.{operators.Test.Test, operators.Unary.Unary}
 use Rattle.inf_scanner.specs.{Tokens.next_token, declared.lines.Lines.Lines, declared.tokens.Mark.Mark}
 use Rattle.inf_machine.specs.{Grammar.Did, Grammar.Event, Grammar.Took, Machine.read}
-use Rattle.inf_syntax.specs.{Atoms.mark_atom, Parts.piece, declared.actions.Action.Action}
+use Rattle.inf_syntax.specs.{Atoms.mark_atom, declared.actions.Action.Action}
+use Rattle.inf_syntax.specs.declared.parts.names.TheConstants as Part
 use Rattle.inf_grammar.specs.Language.{grammar, known}
 use Rattle.inf_unit.specs.{Atoms.atom_of_kind, Atoms.name_atom, Atoms.number_atom, Tokens.is_end}
 use Rattle.inf_expression_laws.specs.Precedence.{commas, primaries}
@@ -242,7 +243,7 @@ text_atoms set limit text = atoms_in set limit (length text) (record { line = 1;
 -- The tokens of a routine's text are those of the tree's events, and the grammar reads them with these events, as one piece of a source.
 pub record IsRead (r : Routine) : Type 0 where
   pub tokens : (set : CharSet) (limit : ℕ) → text_atoms set limit (routine_spelled r) ≡ atoms_of (routine_events r)
-  pub events : read grammar known (piece ∷ []) (atoms_of (routine_events r)) ≡ Some (record { events = routine_events r; left = [] })
+  pub events : read grammar known (Part.PIECE ∷ []) (atoms_of (routine_events r)) ≡ Some (record { events = routine_events r; left = [] })
 
 abbrev pub TextsAreRead : Type 0
 TextsAreRead =

@@ -7,7 +7,7 @@ use Rattle.inf_names.specs.Symbols.{declared_before}
 use Rattle.inf_output.specs.{Output.Out, Veneer.name_of, declared.veneer.Veneer.Veneer}
 use Rattle.inf_veneer.specs.Texts.{all_names, all_texts}
 use Rattle.inf_machine.specs.Machine.{read}
-use Rattle.inf_syntax.specs.Parts.{piece}
+use Rattle.inf_syntax.specs.declared.parts.names.TheConstants as Part
 use Rattle.inf_grammar.specs.Language.{grammar, known}
 use Rattle.inf_unit.specs.{Atoms.bad_atom, Tokens.SourceToken, Tokens.atom_of}
 use Rattle.inf_conditionals.specs.{Judging.hash, Judging.judged, Open.Conditions, Open.no_conditions, declared.filtered.Filtered.Filtered}
@@ -63,7 +63,7 @@ abbrev pub MessageIsRead : Type 0
 MessageIsRead =
     (b : Bool) →
     let r = on_side b send_message in
-    read grammar known (piece ∷ []) (atoms_of (routine_events r)) ≡ Some (record { events = routine_events r; left = [] })
+    read grammar known (Part.PIECE ∷ []) (atoms_of (routine_events r)) ≡ Some (record { events = routine_events r; left = [] })
 
 abbrev pub MessageIsGathered : Type 0
 MessageIsGathered =

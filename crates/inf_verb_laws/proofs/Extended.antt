@@ -10,9 +10,7 @@ firsts (l ∷ new) v = firsts new (with_first l v) ∙ append_assoc v.first (l �
 
 lasts : (new : List LineOf) (v : VerbOf) → lines_of (fold (λ v l. with_last l v) v new) ≡ lines_of v ++ new
 lasts [] v = sym (append-nil (lines_of v))
-lasts (l ∷ new) v =
-    lasts new (with_last l v)
-    ∙ ap (λ x. x ++ new) (sym (append_assoc v.first v.rest (l ∷ [])))
+lasts (l ∷ new) v = lasts new (with_last l v) ∙ ap (λ x. x ++ new) (sym (append_assoc v.first v.rest (l ∷ [])))
     ∙ append_assoc (v.first ++ v.rest) (l ∷ []) new
 
 pub extend_agrees : ExtendAgrees

@@ -12,8 +12,7 @@ or_swapped false b c = refl
 
 at_end : (n r : ℕ) (xs : List ℕ) → list_any (nat_eq n) (xs ++ r ∷ []) ≡ (nat_eq n r || list_any (nat_eq n) xs)
 at_end n r [] = refl
-at_end n r (x ∷ xs) =
-    ap (λ b. nat_eq n x || b) (at_end n r xs) ∙ or_swapped (nat_eq n x) (nat_eq n r) (list_any (nat_eq n) xs)
+at_end n r (x ∷ xs) = ap (λ b. nat_eq n x || b) (at_end n r xs) ∙ or_swapped (nat_eq n x) (nat_eq n r) (list_any (nat_eq n) xs)
 
 abbrev all_added : List ℕ → List ℕ → List ℕ
 all_added before named = fold (λ rs r. with_routine r rs) before named
@@ -29,8 +28,7 @@ by_seen r before seen named old new false true e = cc
 in_order : (before seen named : List ℕ) → ((n : ℕ) → list_any (nat_eq n) before ≡ list_any (nat_eq n) seen)
     → all_added before named ≡ before ++ distinct seen named
 in_order before seen [] h = sym (append-nil before)
-in_order before seen (r ∷ named) h =
-    by_seen r before seen named (in_order before seen named h)
+in_order before seen (r ∷ named) h = by_seen r before seen named (in_order before seen named h)
     (in_order (before ++ r ∷ []) (r ∷ seen) named (λ n. at_end n r before ∙ ap (λ b. nat_eq n r || b) (h n)))
     (list_any (nat_eq r) before) (list_any (nat_eq r) seen) (h r)
 

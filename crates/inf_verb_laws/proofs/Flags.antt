@@ -32,8 +32,7 @@ chosen false known how p = refl
 flags_from : (uses : List UseOf) (t : Text) (known : Option Word)
     → flags_in (said_of t uses known) ≡ fold (step t) (flags_in known) (map (λ u. (u.text, bits_of u.how u.is_plural)) uses)
 flags_from [] t known = refl
-flags_from (u ∷ uses) t known =
-    flags_from uses t (said_by t u known)
+flags_from (u ∷ uses) t known = flags_from uses t (said_by t u known)
     ∙ ap (λ f. fold (step t) f (map (λ u. (u.text, bits_of u.how u.is_plural)) uses)) (chosen (same_text t u.text) known u.how u.is_plural)
 
 pub flags_agree : FlagsAgree

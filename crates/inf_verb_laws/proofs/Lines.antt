@@ -58,8 +58,7 @@ module _ (address : Target → ℕ) where
       → tokens_read most (filled address (tokens_cells ts) ++ 15 ∷ rest) ≡ (map (token_seen address) ts, rest)
   tokens_back ts zero rest few = let h : ⊥ = omega arith in elim h [ ]
   tokens_back [] (suc most) rest few = refl
-  tokens_back (t ∷ ts) (suc most) rest few =
-      one_back most (token_type t) (token_value t) (tokens_cells ts) (15 ∷ rest) (no_end t)
+  tokens_back (t ∷ ts) (suc most) rest few = one_back most (token_type t) (token_value t) (tokens_cells ts) (15 ∷ rest) (no_end t)
       ∙ ap (with_one (token_type t, number_in address (token_value t))) (tokens_back ts most rest (omega arith))
       ∙ ap (λ p. with_one p (map (token_seen address) ts, rest)) (type_is t)
 

@@ -69,8 +69,7 @@ same_by false x = refl
 -- a use that names no verb
 pub other_used : (how : WordUse) (p : Bool) (u t : Text) (words : Words) → verb_in how ≡ None
     → verb_of t (with_use u how p words).list ≡ verb_of t words.list
-other_used how p u t words none =
-    one_used how p u t words
+other_used how p u t words none = one_used how p u t words
     ∙ ap (λ o. cond (same_text t u) (or_verb o (verb_of t words.list)) (verb_of t words.list)) none
     ∙ same_by (same_text t u) (verb_of t words.list)
 
@@ -88,8 +87,7 @@ either false false x y = refl
 pub verbs_used : (how : WordUse) (n : ℕ) (texts : List Text) (t : Text) (s : Tables) → verb_in how ≡ Some n
     → verb_of t (with_words how texts s).words.list ≡ cond (has_word t texts) (Some n) (verb_of t s.words.list)
 verbs_used how n [] t s is = refl
-verbs_used how n (u ∷ texts) t s is =
-    verbs_used how n texts t (with_word how false u s) is
+verbs_used how n (u ∷ texts) t s is = verbs_used how n texts t (with_word how false u s) is
     ∙ ap (λ o. cond (has_word t texts) (Some n) o) (one_used how false u t s.words
     ∙ ap (λ o. cond (same_text t u) (or_verb o (verb_of t s.words.list)) (verb_of t s.words.list)) is)
     ∙ either (has_word t texts) (same_text t u) (Some n) (verb_of t s.words.list)
@@ -132,13 +130,11 @@ place_end t words (w ∷ ws) new = by (has_word t words) refl (has_word t w) ref
         → cond (has_word t w) (Some 0) (option_map suc (place t (ws ++ words ∷ [])))
         ≡ cond (has_word t words) (Some (length (w ∷ ws))) (cond (has_word t w) (Some 0) (option_map suc (place t ws)))
     by true e true h rest = absurd (cc (sym (ap (λ b. b || list_any (has_word t) ws) h) ∙ new e))
-    by true e false h rest =
-        ap (λ c. cond c (Some 0) (option_map suc (place t (ws ++ words ∷ [])))) h
+    by true e false h rest = ap (λ c. cond c (Some 0) (option_map suc (place t (ws ++ words ∷ [])))) h
         ∙ ap (option_map suc) (rest (λ k. sym (ap (λ b. b || list_any (has_word t) ws) h) ∙ new k)
         ∙ ap (λ b. cond b (Some (length ws)) (place t ws)) e)
         ∙ sym (ap (λ b. cond b (Some (length (w ∷ ws))) (cond (has_word t w) (Some 0) (option_map suc (place t ws)))) e)
-    by false e c h rest =
-        ap (λ o. cond (has_word t w) (Some 0) (option_map suc o)) (rest (λ k. absurd (cc (sym k ∙ e)))
+    by false e c h rest = ap (λ o. cond (has_word t w) (Some 0) (option_map suc o)) (rest (λ k. absurd (cc (sym k ∙ e)))
         ∙ ap (λ b. cond b (Some (length ws)) (place t ws)) e)
         ∙ sym (ap (λ b. cond b (Some (length (w ∷ ws))) (cond (has_word t w) (Some 0) (option_map suc (place t ws)))) e)
 
@@ -235,8 +231,7 @@ lacks_more t words u (w ∷ ws) e h =
 one_by : (t : Text) (words : List Text) (u : Text) (w : List Text) (ws : List (List Text)) → (has_word u words ≡ true → lacks u (w ∷ ws))
     → (has_word u w ≡ true → lacks u ws) → (b : Bool) → (b ≡ true → lacks t ws)
     → has_word u (cond b (w ++ words) w) ≡ true → lacks u (more t words ws)
-one_by t words u w ws new one true only h =
-    ap (list_any (has_word u)) (more_none t words ws (only refl))
+one_by t words u w ws new one true only h = ap (list_any (has_word u)) (more_none t words ws (only refl))
     ∙ parts (has_word u w) refl (sym (has_both u w words) ∙ h)
   where
     parts : (a : Bool) → has_word u w ≡ a → (a || has_word u words) ≡ true → lacks u ws
@@ -278,8 +273,7 @@ module _ (f : Line → LineOf) where
   lines_told : (n : ℕ) (how : LinePlace) (lines : List Line) (s : Tables)
       → (with_lines f n how lines s).verbs.list ≡ edited n (all_lines how (map f lines)) s.verbs.list
   lines_told n how [] s = sym (edited_not n s.verbs.list)
-  lines_told n how (l ∷ lines) s =
-      lines_told n how lines (with_line_told f n how l s)
+  lines_told n how (l ∷ lines) s = lines_told n how lines (with_line_told f n how l s)
       ∙ ap (λ v. edited n (all_lines how (map f lines)) (with_line_of n how (f l) v).list)
       (words_keep_verbs WordUse.Preposition (flat_map prepositions l.tokens) s)
       ∙ edited_twice n (with_line how (f l)) (all_lines how (map f lines)) s.verbs.list
@@ -287,8 +281,7 @@ module _ (f : Line → LineOf) where
   lines_keep_words : (n : ℕ) (how : LinePlace) (lines : List Line) (s : Tables) (t : Text)
       → verb_of t (with_lines f n how lines s).words.list ≡ verb_of t s.words.list
   lines_keep_words n how [] s t = refl
-  lines_keep_words n how (l ∷ lines) s t =
-      lines_keep_words n how lines (with_line_told f n how l s) t
+  lines_keep_words n how (l ∷ lines) s t = lines_keep_words n how lines (with_line_told f n how l s) t
       ∙ others_used WordUse.Preposition (flat_map prepositions l.tokens) t s refl
 
   -- Tables and verbs of the description agree, and no word is one of two verbs.
@@ -354,8 +347,7 @@ module _ (f : Line → LineOf) where
   words_stay : (t : Text) (h : VerbIs → VerbIs) → ((v : VerbIs) → (h v).words ≡ v.words) → (vs : List VerbIs)
       → all_words (changed t h vs) ≡ all_words vs
   words_stay t h k [] = refl
-  words_stay t h k (v ∷ vs) =
-      ap (λ l. (cond (has_word t v.words) (h v) v).words ∷ l) (words_stay t h k vs)
+  words_stay t h k (v ∷ vs) = ap (λ l. (cond (has_word t v.words) (h v) v).words ∷ l) (words_stay t h k vs)
       ∙ ap (λ w. w ∷ all_words vs) (by (has_word t v.words))
     where
       by : (b : Bool) → (cond b (h v) v).words ≡ v.words
@@ -373,8 +365,7 @@ module _ (f : Line → LineOf) where
   extend_by : (vs : List VerbIs) (s : Tables) (t : Text) (p : Where) (lines : List Line) → Agrees vs s → (o : Option ℕ)
       → place t (all_words vs) ≡ o
       → Agrees (changed t (λ v. record v { lines = extended p lines v.lines }) vs) (with_more_lines f o (place_of p) lines s)
-  extend_by vs s t p lines a None e =
-      subst (λ l. Agrees l s) (sym (unchanged t (λ v. record v { lines = extended p lines v.lines }) vs
+  extend_by vs s t p lines a None e = subst (λ l. Agrees l s) (sym (unchanged t (λ v. record v { lines = extended p lines v.lines }) vs
       (place_lacks t (all_words vs) e))) a
   extend_by vs s t p lines a (Some n) e =
       let h : VerbIs → VerbIs = λ v. record v { lines = extended p lines v.lines } in
@@ -382,9 +373,7 @@ module _ (f : Line → LineOf) where
       let r = record s { verbs = with_extended n how s.verbs } in
       let stays = words_stay t h (λ v. refl) vs in
       record {
-        lines =
-            ap (map lines_of) (lines_told n how lines r
-            ∙ edited_twice n (with_place how) (all_lines how (map f lines)) s.verbs.list)
+        lines = ap (map lines_of) (lines_told n how lines r ∙ edited_twice n (with_place how) (all_lines how (map f lines)) s.verbs.list)
             ∙ changed_at t n (λ v. all_lines how (map f lines) (with_place how v)) h (extend_follows p lines) vs s.verbs.list a.lines
             (a.single t) e;
         words = λ u. lines_keep_words n how lines r u ∙ a.words u ∙ ap (place u) (sym stays);
@@ -398,8 +387,7 @@ module _ (f : Line → LineOf) where
 
   lines_stay : (t : Text) (words : List Text) (vs : List VerbIs) → shown (changed t (with_words_more words) vs) ≡ shown vs
   lines_stay t words [] = refl
-  lines_stay t words (v ∷ vs) =
-      ap (λ l. map f (cond (has_word t v.words) (with_words_more words v) v).lines ∷ l) (lines_stay t words vs)
+  lines_stay t words (v ∷ vs) = ap (λ l. map f (cond (has_word t v.words) (with_words_more words v) v).lines ∷ l) (lines_stay t words vs)
       ∙ ap (λ w. map f w ∷ shown vs) (by (has_word t v.words))
     where
       by : (b : Bool) → (cond b (with_words_more words v) v).lines ≡ v.lines
@@ -409,8 +397,7 @@ module _ (f : Line → LineOf) where
   words_more : (t : Text) (words : List Text) (vs : List VerbIs)
       → all_words (changed t (with_words_more words) vs) ≡ more t words (all_words vs)
   words_more t words [] = refl
-  words_more t words (v ∷ vs) =
-      ap (λ l. (cond (has_word t v.words) (with_words_more words v) v).words ∷ l) (words_more t words vs)
+  words_more t words (v ∷ vs) = ap (λ l. (cond (has_word t v.words) (with_words_more words v) v).words ∷ l) (words_more t words vs)
       ∙ ap (λ w. w ∷ more t words (all_words vs)) (by (has_word t v.words))
     where
       by : (b : Bool) → (cond b (with_words_more words v) v).words ≡ cond b (v.words ++ words) v.words
@@ -424,9 +411,7 @@ module _ (f : Line → LineOf) where
       subst (λ l. Agrees l s) (sym (unchanged t (with_words_more words) vs (place_lacks t (all_words vs) e))) a
   like_by vs s is_meta words t a new (Some n) e = record {
     lines = ap (λ v. map lines_of v.list) (words_keep_verbs (verb_use is_meta n) words s) ∙ a.lines ∙ sym (lines_stay t words vs);
-    words = λ u.
-        verbs_used (verb_use is_meta n) n words u s (use_is is_meta n)
-        ∙ ap (cond (has_word u words) (Some n)) (a.words u)
+    words = λ u. verbs_used (verb_use is_meta n) n words u s (use_is is_meta n) ∙ ap (cond (has_word u words) (Some n)) (a.words u)
         ∙ sym (place_more t words u n (all_words vs) new (a.single t) e)
         ∙ ap (place u) (sym (words_more t words vs));
     single = λ u. subst (OneOf u) (sym (words_more t words vs)) (one_more t words u (all_words vs) new (a.single t) (a.single u));
@@ -451,17 +436,14 @@ module _ (f : Line → LineOf) where
       let count : n ≡ length (all_words vs) =
       sym (length-map s.verbs.list lines_of) ∙ ap length a.lines ∙ length-map vs (λ v. map f v.lines) ∙ sym (length-map vs (λ v. v.words)) in
       record {
-        lines =
-            ap (map lines_of) (lines_told n LinePlace.Last lines u
+        lines = ap (map lines_of) (lines_told n LinePlace.Last lines u
             ∙ ap (λ v. edited n g v.list) (words_keep_verbs (verb_use is_meta n) words r)
             ∙ edited_end g s.verbs.list no_lines)
             ∙ map-append lines_of s.verbs.list (g no_lines ∷ [])
             ∙ ap (λ l. map lines_of s.verbs.list ++ l ∷ []) (extend_agrees LinePlace.Last (map f lines) no_lines)
             ∙ ap (λ l. l ++ map f lines ∷ []) a.lines
             ∙ sym (map-append (λ v. map f v.lines) vs (v ∷ []));
-        words = λ t.
-            lines_keep_words n LinePlace.Last lines u t
-            ∙ verbs_used (verb_use is_meta n) n words t r (use_is is_meta n)
+        words = λ t. lines_keep_words n LinePlace.Last lines u t ∙ verbs_used (verb_use is_meta n) n words t r (use_is is_meta n)
             ∙ ap (cond (has_word t words) (Some n)) (a.words t)
             ∙ ap (λ k. cond (has_word t words) (Some k) (place t (all_words vs))) count
             ∙ sym (place_end t words (all_words vs) (new t))
@@ -488,8 +470,7 @@ module _ (f : Line → LineOf) where
   all_steps : (all : List Said) (vs : List VerbIs) (s : Tables) → Agrees vs s → AreRight vs all
       → Agrees (fold with_said vs all) (with_all f all s)
   all_steps [] vs s a right = a
-  all_steps (said ∷ all) vs s a right =
-      all_steps all (with_said vs said) (with_one f said s) (one_step said vs s a right.0) right.1
+  all_steps (said ∷ all) vs s a right = all_steps all (with_said vs said) (with_one f said s) (one_step said vs s a right.0) right.1
 
   nothing_said : Agrees [] no_tables
   nothing_said = record { lines = refl; words = λ t. refl; single = λ t. tt }

@@ -1,7 +1,7 @@
 -- Lines of verbs (Inform Technical Manual, section 8.5).
 use Rattle.std.specs.Prelude.{ℕ, ◌+◌, ◌*◌, ◌%◌, List, [], ◌∷◌, ◌++◌, Bool, length, if◌then◌else◌}
 use Rattle.inf_area.specs.{declared.cells.Cell.Cell, declared.targets.Target.Target, declared.targets.Value.Value}
-use Rattle.inf_area.specs.Cells.{value_cells, word_cells}
+use Rattle.inf_area.specs.{Cells.value_cells, Cells.word_cells, Sums.sum_of}
 use Rattle.inf_verbs.specs.{declared.lines.LineToken.LineToken, declared.lines.Noun.Noun}
 
 -- a line: the action that it means, whether its nouns change places, and its tokens
@@ -49,8 +49,7 @@ is_preposition (LineToken.Routine n) = 0
 
 -- the number of tokens that are prepositions
 abbrev pub prepositions : List LineToken → ℕ
-prepositions [] = 0
-prepositions (t ∷ tokens) = is_preposition t + prepositions tokens
+prepositions tokens = sum_of is_preposition tokens
 
 -- A line as it is written: its action, with $400 where its nouns change places, its tokens, 15.
 abbrev pub action_word : LineOf → ℕ
@@ -72,9 +71,7 @@ abbrev pub line_size : LineOf → ℕ
 line_size line = 3 + 3 * length line.tokens
 
 abbrev pub lines_size : List LineOf → ℕ
-lines_size [] = 0
-lines_size (line ∷ lines) = line_size line + lines_size lines
+lines_size lines = sum_of line_size lines
 
 abbrev pub lines_prepositions : List LineOf → ℕ
-lines_prepositions [] = 0
-lines_prepositions (line ∷ lines) = prepositions line.tokens + lines_prepositions lines
+lines_prepositions lines = sum_of (λ line. prepositions line.tokens) lines

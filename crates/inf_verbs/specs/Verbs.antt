@@ -1,7 +1,7 @@
 -- Verbs and their lines (Inform Technical Manual, section 8.5).
 use Rattle.std.specs.Prelude.{ℕ, zero, suc, ◌+◌, ◌*◌, ◌%◌, List, [], ◌∷◌, ◌++◌, Option, Some, None, length, nat_le, nat_lt, slice_index_or}
 use Rattle.std.specs.Prelude.{slice_set, if◌then◌else◌}
-use Rattle.inf_area.specs.{declared.cells.Cell.Cell, declared.targets.AreaName.AreaName, declared.targets.Target.Target}
+use Rattle.inf_area.specs.{Sums.sum_of, declared.cells.Cell.Cell, declared.targets.AreaName.AreaName, declared.targets.Target.Target}
 use Rattle.inf_settings.specs.{Bounds.Limits, declared.setting.Setting.Setting}
 use Rattle.inf_verbs.specs.{declared.verbs.LineFault.LineFault, declared.verbs.LinePlace.LinePlace, declared.verbs.VerbFault.VerbFault}
 use Rattle.inf_verbs.specs.Lines.{LineOf, lines_cells, lines_prepositions, lines_size}
@@ -64,16 +64,14 @@ abbrev pub verb_size : VerbOf → ℕ
 verb_size verb = 2 + part_size verb
 
 abbrev pub verbs_size : List VerbOf → ℕ
-verbs_size [] = 0
-verbs_size (verb ∷ verbs) = verb_size verb + verbs_size verbs
+verbs_size verbs = sum_of verb_size verbs
 
 -- the number of values that are known later: the addresses of lines, and those of prepositions
 abbrev pub verb_laters : VerbOf → ℕ
 verb_laters verb = 1 + lines_prepositions (lines_of verb)
 
 abbrev pub verbs_laters : List VerbOf → ℕ
-verbs_laters [] = 0
-verbs_laters (verb ∷ verbs) = verb_laters verb + verbs_laters verbs
+verbs_laters verbs = sum_of verb_laters verbs
 
 -- the reason why another verb cannot be added: there are 255, or as many as there may be, or the grammar would have more bytes than it
 -- may

@@ -1,7 +1,7 @@
 //! The lines of one verb.
 ghost use Rattle.std.specs.Prelude.{◌≡◌, ◌<◌, ◌+◌, ◌%◌, ◌^◌, ◌++◌, ◌∷◌, [], OnOk, OnErr, length, reverse};
 ghost use Rattle.inf_verbs.specs.Lines.{line_size, lines_cells, lines_prepositions, lines_size, prepositions};
-ghost use Rattle.inf_verbs.specs.Verbs.{begun_first, extended, lines_of, no_lines, verb_cells, with_first, with_last, with_line};
+ghost use Rattle.inf_verbs.specs.Verbs.{begun_first, extended, lines_of, no_lines, verb_cells, with_line};
 
 use crate::lines::Line;
 use crate::verbs::LinePlace;
@@ -79,6 +79,7 @@ impl Verb {
     }
 
     /// Adds a line at `place`; `size` is the number of its bytes, `later` that of its prepositions.
+    #[tactic(auto, using(inf_area::proofs::Sums::sum_of_more_first, inf_area::proofs::Sums::sum_of_more_last, crate::proofs::Sizes::lines_more_last))]
     pub(crate) fn add(
         &mut self,
         place: LinePlace,
@@ -94,8 +95,18 @@ impl Verb {
         ensures err { OnErr result (self.new ≡ self.old) }
     {
         match place {
-            LinePlace::First => self.add_first(line, size, later),
-            LinePlace::Last | LinePlace::Replace => self.add_last(line, size, later),
+            LinePlace::First => {
+                self.first.push(line)?;
+                self.size += size;
+                self.later += later;
+                Ok(())
+            }
+            LinePlace::Last | LinePlace::Replace => {
+                self.back.push(line)?;
+                self.size += size;
+                self.later += later;
+                Ok(())
+            }
         }
     }
 
@@ -122,38 +133,6 @@ impl Verb {
         self.back.clear();
         self.size = 0;
         self.later = 0;
-    }
-
-    // Adds a line behind those that the last `Extend first` put in front.
-    #[tactic(auto, using(crate::proofs::Sizes::size_more_first, crate::proofs::Sizes::prepositions_more_first))]
-    fn add_first(&mut self, line: Line, size: usize, later: usize) -> Result<(), AllocError>
-        requires size { size ≡ line_size line }
-        requires later { later ≡ prepositions line.tokens }
-        requires bytes { lines_size (lines_of self.old) + size < 2 ^ 64 }
-        requires tokens { lines_prepositions (lines_of self.old) + later < 2 ^ 64 }
-        ensures ok { OnOk result (self.new ≡ with_first line self.old) }
-        ensures err { OnErr result (self.new ≡ self.old) }
-    {
-        self.first.push(line)?;
-        self.size += size;
-        self.later += later;
-        Ok(())
-    }
-
-    // Adds a line behind all others.
-    #[tactic(auto, using(crate::proofs::Sizes::size_more_last, crate::proofs::Sizes::prepositions_more_last, crate::proofs::Sizes::lines_more_last))]
-    fn add_last(&mut self, line: Line, size: usize, later: usize) -> Result<(), AllocError>
-        requires size { size ≡ line_size line }
-        requires later { later ≡ prepositions line.tokens }
-        requires bytes { lines_size (lines_of self.old) + size < 2 ^ 64 }
-        requires tokens { lines_prepositions (lines_of self.old) + later < 2 ^ 64 }
-        ensures ok { OnOk result (self.new ≡ with_last line self.old) }
-        ensures err { OnErr result (self.new ≡ self.old) }
-    {
-        self.back.push(line)?;
-        self.size += size;
-        self.later += later;
-        Ok(())
     }
 
     // Returns the number of lines, modulo 256.

@@ -142,7 +142,7 @@ impl<B: Bounds> Verbs<B> {
     /// Returns an error, the first that applies: `TooMany` where there are 255 verbs, `Full` where there are as many as
     /// there may be, `NoSpace` where the grammar would have more bytes than it may have, `Memory` where no memory is
     /// left. All verbs then stay as they were.
-    #[tactic(auto, using(crate::proofs::Sizes::size_verb, crate::proofs::Sizes::laters_verb, crate::proofs::Sizes::few_laters))]
+    #[tactic(auto, using(inf_area::proofs::Sums::sum_of_push, crate::proofs::Sizes::few_laters))]
     pub fn add(&mut self) -> Result<u8, VerbFault>
         ensures ok { OnOk result (self.new ≡ with_verb self.old) }
         ensures number { IfOk result (λ number. number ≡ length self.old.list) }

@@ -178,12 +178,10 @@ found_bound : (name : List ℕ) (place : Place) (t : Table Place) (v : Out) (sys
     system_meaning t.is_debugging name ≡ sys → standing_of (folded name) t.names ≡ st →
     v.names ≡ with_used_by (found_as sys st) name place t →
     IsBound (found_operand (found_as sys st) (number_by (found_as sys st) name t)) v
-found_bound name place t v None None d e is =
-    subst (λ (x : Table Place). index_of (folded name) t.names < length x.names) (sym is)
+found_bound name place t v None None d e is = subst (λ (x : Table Place). index_of (folded name) t.names < length x.names) (sym is)
     (index_put (folded name) (IsUsed name place) t.names e)
 found_bound name place t v (Some m) None d e is = own_bound m None v (own_by t.is_debugging (named name) m d)
-found_bound name place t v sys (Some (IsDeclared k m first)) d e is =
-    numbered_bound m (index_of (folded name) t.names) v
+found_bound name place t v sys (Some (IsDeclared k m first)) d e is = numbered_bound m (index_of (folded name) t.names) v
     (subst (λ (x : Table Place). index_of (folded name) t.names < length x.names) (sym is)
     (index_within (folded name) t.names (ap is_some e)))
 found_bound name place t v sys (Some (IsUsed spelling first)) d e is =
@@ -365,8 +363,7 @@ module _ {limits : Limits} where
   pub settled_used : (set : CharSet) (locals : List Local) (tokens : List SourceToken) (leaves : List Leaf) (s : Settled)
       → Used limits s.out (settled limits set locals tokens leaves s).out
   settled_used set locals tokens [] s = Still
-  settled_used set locals tokens (l ∷ leaves) s =
-      Both (leaf_used set locals tokens l s.out)
+  settled_used set locals tokens (l ∷ leaves) s = Both (leaf_used set locals tokens l s.out)
       (settled_used set locals tokens leaves (with_settled (settled_leaf limits set locals tokens l s.out) s.operands))
 
 -- Words stay, and names only get more.

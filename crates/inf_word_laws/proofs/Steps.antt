@@ -39,8 +39,7 @@ past_tables limits (Some past) code = refl
 -- where only limits beside those of tables were passed, words stay
 with_past : (text : Text) (limits : Limits) (o v : Out) (code : Routines) (q : Past) → q.tables ≡ (past_by limits o.past code).tables
     → v.tables ≡ o.tables → v.past ≡ Some q → Stands text o → Stands text v
-with_past text limits o v code q same tables past stands =
-    same_stands text o v (ap (λ t. is_some (word_of text t.dictionary.list)) tables)
+with_past text limits o v code q same tables past stands = same_stands text o v (ap (λ t. is_some (word_of text t.dictionary.list)) tables)
     (ap is_limited_by past ∙ (ap is_some same ∙ past_tables limits o.past code)) stands
 
 -- Lemmas about items
@@ -69,8 +68,7 @@ item_stands limits item None text o is stands = go (full_item item o.code)
   where
     go : (f : Option CodeLimit) → Stands text (fitted limits f item o)
     go None = stands
-    go (Some limit) =
-        with_past text limits o (fitted limits (Some limit) item o) o.code (without_item o.code item (past_of limits o))
+    go (Some limit) = with_past text limits o (fitted limits (Some limit) item o) o.code (without_item o.code item (past_of limits o))
         (passed_tables o.code item (past_of limits o)) refl refl stands
 
 laid_stands : (limits : Limits) (item : Item) (kept : Option (List Item)) (text : Text) (o : Out) → Stands text o
@@ -188,8 +186,7 @@ word_added limits None used how is_plural text o stands = go (or_parts_true (has
   where
     go : (has_word text o ≡ true) ⊎ (is_limited o ≡ true) → Stands text (with_word_by limits None used how is_plural o)
     go (inl has) = ap (λ b. b || is_limited o) (word_stays text used how is_plural o has)
-    go (inr is) =
-        ap (λ b. is_some (word_of text (with_use used how is_plural o.tables.dictionary).list) || b) is
+    go (inr is) = ap (λ b. is_some (word_of text (with_use used how is_plural o.tables.dictionary).list) || b) is
         ∙ or-true (is_some (word_of text (with_use used how is_plural o.tables.dictionary).list))
 word_added limits (Some AddFault.Full) used how is_plural text o stands = limit_stands limits Setting.DictionaryEntries text o
 word_added limits (Some AddFault.OtherVerb) used how is_plural text o stands = stands
@@ -223,8 +220,7 @@ steps_keep_words limits = record {
   opening = λ locals is_lost.
       record { keeps = λ text o stands. opened_stands limits (full_opened limits is_lost o.code) locals is_lost text o stands };
   closing = λ kind. record {
-    keeps = λ text o stands.
-        left_stands limits (past_of limits o).labels text (code_closed limits kind o)
+    keeps = λ text o stands. left_stands limits (past_of limits o).labels text (code_closed limits kind o)
         (closed_stands limits (fault_closed limits kind o.code) kind text o stands);
   };
   beginning = record { keeps = λ text o stands. begun_stands limits (full_begun limits o.code) text o stands };

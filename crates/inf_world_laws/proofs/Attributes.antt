@@ -33,8 +33,7 @@ pub said_in_order : (f : ℕ → Bool) (n : ℕ) (has : List (ℕ × Bool))
     → fold (λ attributes h. slice_set attributes h.0 h.1) (map f (range_with_len 0 n)) has
     ≡ map (λ a. said a (f a) has) (range_with_len 0 n)
 said_in_order f n [] = refl
-said_in_order f n ((i, b) ∷ has) =
-    ap (λ l. fold (λ attributes h. slice_set attributes h.0 h.1) l has) (set_map f 0 n i b)
+said_in_order f n ((i, b) ∷ has) = ap (λ l. fold (λ attributes h. slice_set attributes h.0 h.1) l has) (set_map f 0 n i b)
     ∙ ap (λ j. fold (λ attributes h. slice_set attributes h.0 h.1) (map (changed f j b) (range_with_len 0 n)) has)
     (let h : 0 + i ≡ i = omega arith in h)
     ∙ said_in_order (changed f i b) n has

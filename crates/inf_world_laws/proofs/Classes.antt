@@ -1,15 +1,15 @@
 -- Classes of a body, one by one: its list of classes, what classes have of attributes, and their properties are those of the description.
-use Rattle.std.proofs.Common.{◌≡◌, ◌<◌, ℕ, ◌+◌, ◌==◌, ◌||◌, List, [], ◌∷◌, ◌++◌, append_assoc, append-nil, length, map, Option, Some, None}
+use Rattle.std.proofs.Common.{◌≡◌, ◌<◌, ℕ, ◌+◌, ◌==◌, ◌||◌, List, [], ◌∷◌, ◌++◌, append_assoc, append-nil, length, map, Some}
 use Rattle.std.proofs.Common.{option_map, Bool, true, false, cond, refl, sym, ap, ◌∙◌, subst, arith, nat_eq, flat_map, fold}
 use Rattle.std.specs.List.{list_any, range_with_len}
 use Rattle.inf_properties.specs.{Properties.inherited, declared.values.Property.Property}
 use Rattle.inf_objects.specs.Attributes.{together}
 use Rattle.inf_objects.specs.Objects.{has_number, is_lost, joined_classes, new_classes, with_joined_class}
 use Rattle.inf_tables.specs.{Objects.class_at, World.WorldOf, World.class_by, World.with_class_of}
-use Rattle.inf_world_laws.specs.{Laws.AreSingle, Laws.as_properties, Laws.inherited_above, Laws.numbers_of, Whole.ClassesFit}
+use Rattle.inf_world_laws.specs.{Laws.AreSingle, Laws.as_properties, Laws.inherited_above, Whole.ClassesFit}
 use Rattle.inf_world_laws.specs.Things.{Thing, and_given, classes_in, contains, distinct, giving, thing_at, with_own}
-use Rattle.inf_world_laws.proofs.Order.{again, drop_out, join, kept, or_nothing, turned, without}
-use Rattle.inf_world_laws.proofs.Lookup.{IsClass, Named, class_there, found_within, named_at, object_in, thing_is, things_in, things_length, told}
+use Rattle.inf_world_laws.proofs.Order.{drop_out, join, kept, or_nothing, turned, without}
+use Rattle.inf_world_laws.proofs.Lookup.{IsClass, Named, class_there, found_within, object_in, thing_is, things_in, things_length, told}
 use Rattle.inf_world_laws.proofs.Lists.{numbers_are}
 
 -- Lemmas about truths
@@ -58,20 +58,14 @@ pub distinct_has : (xs : List ℕ) (n : ℕ) → contains (distinct [] xs) n ≡
 distinct_has xs n = sym (or_false (contains (distinct [] xs) n)) ∙ kept [] xs n ∙ or_false (contains xs n)
 
 pub distinct_both : (l xs ys : List ℕ) → l ≡ distinct [] xs → distinct [] (xs ++ ys) ≡ l ++ distinct l ys
-distinct_both l xs ys e =
-    join [] l xs ys (λ n. ap (λ l. contains l n) e ∙ distinct_has xs n ∙ or_nothing (contains xs n))
+distinct_both l xs ys e = join [] l xs ys (λ n. ap (λ l. contains l n) e ∙ distinct_has xs n ∙ or_nothing (contains xs n))
     ∙ ap (λ k. k ++ distinct l ys) (sym e)
 
 -- of numbers that were all seen none is left
 all_seen : (s l : List ℕ) → ((n : ℕ) → contains l n ≡ true → contains s n ≡ true) → distinct s l ≡ []
 all_seen s [] h = refl
-all_seen s (x ∷ l) h =
-    ap (λ b. cond b (distinct s l) (x ∷ distinct (x ∷ s) l)) (h x (or_left (nat_eq x x) (contains l x) (is_same x)))
+all_seen s (x ∷ l) h = ap (λ b. cond b (distinct s l) (x ∷ distinct (x ∷ s) l)) (h x (or_left (nat_eq x x) (contains l x) (is_same x)))
     ∙ all_seen s l (λ n e. h n (or_right (nat_eq n x) (contains l n) e))
-
-without_nothing : (l : List ℕ) → without [] l ≡ l
-without_nothing [] = refl
-without_nothing (n ∷ l) = ap (λ k. n ∷ k) (without_nothing l)
 
 -- Numbers that are new, each behind those before it, have no repeats.
 
@@ -90,8 +84,7 @@ are_apart seen (x ∷ xs) = apart_by seen xs x (are_apart seen xs) (are_apart (x
 
 apart_is : (seen l : List ℕ) → AreApart seen l → distinct seen l ≡ l
 apart_is seen [] a = refl
-apart_is seen (n ∷ l) a =
-    ap (λ b. cond b (distinct seen l) (n ∷ distinct (n ∷ seen) l)) a.0 ∙ ap (λ k. n ∷ k) (apart_is (n ∷ seen) l a.1)
+apart_is seen (n ∷ l) a = ap (λ b. cond b (distinct seen l) (n ∷ distinct (n ∷ seen) l)) a.0 ∙ ap (λ k. n ∷ k) (apart_is (n ∷ seen) l a.1)
 
 -- taking repeats away twice is taking them away once
 pub distinct_again : (xs : List ℕ) → distinct [] (distinct [] xs) ≡ distinct [] xs
@@ -105,8 +98,7 @@ has_number_is n (m ∷ l) = ap (λ b. b || has_number n l) (turned m n) ∙ ap (
 
 new_is : (own : List ℕ) (c : ℕ) (l : List ℕ) → new_classes own c l ≡ without (c ∷ own) l
 new_is own c [] = refl
-new_is own c (n ∷ l) =
-    ap (λ b. cond b (new_classes own c l) (n ∷ new_classes own c l))
+new_is own c (n ∷ l) = ap (λ b. cond b (new_classes own c l) (n ∷ new_classes own c l))
     (ap (λ b. b || has_number n own) (turned n c ∙ exchanged c n) ∙ ap (λ b. nat_eq n c || b) (has_number_is n own))
     ∙ ap (λ k. cond (contains (c ∷ own) n) k (n ∷ k)) (new_is own c l)
   where
@@ -116,8 +108,7 @@ new_is own c (n ∷ l) =
 -- the class and its own classes behind others, where the class is new
 joined_is : (l xs : List ℕ) (c : ℕ) (cs : List ℕ) → l ≡ distinct [] xs → contains l c ≡ false → cs ≡ distinct [] cs
     → joined_classes l c cs ≡ distinct [] (xs ++ c ∷ cs)
-joined_is l xs c cs e new single =
-    append_assoc l (c ∷ []) (new_classes l c cs)
+joined_is l xs c cs e new single = append_assoc l (c ∷ []) (new_classes l c cs)
     ∙ ap (λ k. l ++ c ∷ k) (new_is l c cs ∙ ap (without (c ∷ l)) single ∙ drop_out (c ∷ l) [] (c ∷ l) cs (λ n. or_nothing (contains (c ∷ l) n)))
     ∙ ap (λ b. l ++ cond b (distinct l cs) (c ∷ distinct (c ∷ l) cs)) (sym new)
     ∙ sym (distinct_both l xs (c ∷ cs) e)
@@ -161,13 +152,10 @@ closed_joined : (before : List Thing) (l k : List ℕ) (c : ℕ) (t : Thing) →
     → IsClosed before l → IsClosed before t.classes
     → ((n : ℕ) → contains k n ≡ (contains l n || contains (c ∷ t.classes) n)) → IsClosed before k
 closed_joined before l k c t at there old own m = record {
-  within = λ d e.
-      or_split (contains l d) (contains (c ∷ t.classes) d) (sym (m d) ∙ e) (old.within d) (λ f.
+  within = λ d e. or_split (contains l d) (contains (c ∷ t.classes) d) (sym (m d) ∙ e) (old.within d) (λ f.
       or_split (nat_eq d c) (contains t.classes d) f
       (λ g. subst (λ x. x < 5 + length before) (sym (same_number d c g)) there) (own.within d));
-  closed = λ d n e h.
-      m n
-      ∙ or_split (contains l d) (contains (c ∷ t.classes) d) (sym (m d) ∙ e)
+  closed = λ d n e h. m n ∙ or_split (contains l d) (contains (c ∷ t.classes) d) (sym (m d) ∙ e)
       (λ f. or_left (contains l n) (contains (c ∷ t.classes) n) (old.closed d n f h))
       (λ f.
       or_right (contains l n) (contains (c ∷ t.classes) n)
@@ -184,9 +172,7 @@ module _ (additive : ℕ → Bool) where
   -- the body with a list of classes, with what they have of attributes, and with their properties
   abbrev pub classed : WorldOf → List ℕ → List Bool → List Property → WorldOf
   classed v l attributes above =
-      record v {
-        body = record v.body { classes = l; above = attributes; properties = record v.body.properties { above = above } };
-      }
+      record v { body = record v.body { classes = l; above = attributes; properties = record v.body.properties { above = above } } }
 
   abbrev pub joined_to : WorldOf → List ℕ → List Bool → List Property → ℕ → Thing → WorldOf
   joined_to v l attributes above c t =
@@ -282,8 +268,7 @@ module _ (additive : ℕ → Bool) where
         ∙ ap (λ o. and_given o givers) at in
         subst (λ g. JoinedBy all v (c ∷ named) l f above (xs ++ (own ++ others)) g) (sym taken)
         (subst (λ ys. JoinedBy all v (c ∷ named) l f above ys (t ∷ givers)) (append_assoc xs own others) (record {
-          is = ap (λ w. fold (λ w c. with_class_of c w) w named) (step ∙ ap (λ a. classed v k a higher) flags_are)
-              ∙ r.is
+          is = ap (λ w. fold (λ w c. with_class_of c w) w named) (step ∙ ap (λ a. classed v k a higher) flags_are) ∙ r.is
               ∙ ap (λ a. classed v (distinct [] ((xs ++ own) ++ others)) a
               (inherited_above additive higher (map (λ c. c.properties) givers)))
               (map_same (λ a. g a || list_any (λ c. c.has a) givers) (λ a. f a || list_any (λ c. c.has a) (t ∷ givers))
@@ -299,8 +284,7 @@ module _ (additive : ℕ → Bool) where
     all_classes [] l xs seen f above e same closed fits =
         let none : l ≡ distinct [] (xs ++ []) = e ∙ ap (distinct []) (sym (append-nil xs)) in
         record {
-          is = ap (λ k. classed v k (flags f) above) none
-              ∙ ap (λ a. classed v (distinct [] (xs ++ [])) a above)
+          is = ap (λ k. classed v k (flags f) above) none ∙ ap (λ a. classed v (distinct [] (xs ++ [])) a above)
               (map_same f (λ a. f a || false) (range_with_len 0 48) (λ a. or_nothing (f a)));
           closed = subst (λ k. IsClosed (things_in all) k) none closed;
           single = tt;

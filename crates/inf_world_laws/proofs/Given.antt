@@ -26,8 +26,7 @@ position_at x (y ∷ l) zs new = by (nat_eq x y) refl new (position_at x l zs)
         → (contains l x ≡ false → position_or_len (nat_eq x) (l ++ x ∷ zs) ≡ length l)
         → cond (not (nat_eq x y)) (1 + position_or_len (nat_eq x) (l ++ x ∷ zs)) 0 ≡ length (y ∷ l)
     by true e h rest = absurd (cc h)
-    by false e h rest =
-        ap (λ b. cond (not b) (1 + position_or_len (nat_eq x) (l ++ x ∷ zs)) 0) e
+    by false e h rest = ap (λ b. cond (not b) (1 + position_or_len (nat_eq x) (l ++ x ∷ zs)) 0) e
         ∙ ap (λ n. 1 + n) (rest h) ∙ (let one : 1 + length l ≡ length (y ∷ l) = omega arith in one)
 
 -- a name that is new stands behind all names before it
@@ -53,8 +52,7 @@ one_name x done =
     by false = refl
 
 has_more : (x y : ℕ) (done : List ℕ) → contains (done ++ x ∷ []) y ≡ (nat_eq y x || contains done y)
-has_more x y done =
-    contains_both done (x ∷ []) y ∙ ap (λ b. contains done y || b) (or_false (nat_eq y x))
+has_more x y done = contains_both done (x ∷ []) y ∙ ap (λ b. contains done y || b) (or_false (nat_eq y x))
     ∙ or_exchanged (contains done y) (nat_eq y x)
 
 -- the names that came, and the numbers that they have
@@ -78,8 +76,7 @@ numbered_new names done count numbers x i new number = record {
   known = λ y. by y (x == y) refl;
 }
   where
-    by : (y : ℕ) (b : Bool) → (x == y) ≡ b
-        → cond b (Some (64 + count)) (number_in y numbers)
+    by : (y : ℕ) (b : Bool) → (x == y) ≡ b → cond b (Some (64 + count)) (number_in y numbers)
         ≡ cond (contains (done ++ x ∷ []) y) (Some (number_of names (Individual y))) None
     by y true e =
         let same : y ≡ x = grind arith in
@@ -104,10 +101,7 @@ module _ (additive : ℕ → Bool) (v : WorldOf) (kinds : AreKinds additive v)
   -- the body with properties of its own, where a number of individual ones was declared
   abbrev pub placed : ℕ → List Property → Bool → WorldOf
   placed count own takes =
-      record v {
-        individuals = count;
-        body = record v.body { properties = record v.body.properties { own = own; takes_values = takes } };
-      }
+      record v { individuals = count; body = record v.body { properties = record v.body.properties { own = own; takes_values = takes } } }
 
   pub record Fits (n : ℕ) (w : WorldOf) : Type 0 where
     pub kind : kind_of n w ≡ Some (additive n)
@@ -126,8 +120,7 @@ module _ (additive : ℕ → Bool) (v : WorldOf) (kinds : AreKinds additive v)
       → with_values values (placed count (own ++ property additive n us ∷ []) true)
       ≡ placed count (own ++ property additive n (us ++ values) ∷ []) true
   values_placed n count own us [] = ap (λ u. placed count (own ++ property additive n u ∷ []) true) (sym (append-nil us))
-  values_placed n count own us (x ∷ values) =
-      ap (λ l. with_values values (placed count l true)) (last_value own (property additive n us) x)
+  values_placed n count own us (x ∷ values) = ap (λ l. with_values values (placed count l true)) (last_value own (property additive n us) x)
       ∙ values_placed n count own (us ++ x ∷ []) values
       ∙ ap (λ u. placed count (own ++ property additive n u ∷ []) true) (append_assoc us (x ∷ []) values)
 
@@ -167,8 +160,7 @@ module _ (additive : ℕ → Bool) (v : WorldOf) (kinds : AreKinds additive v)
   pub record One (names done : List ℕ) (own : List Property) (p : PropertyName × List Value) (r : Run) : Type 0 where
     pub count : ℕ
     pub numbers : List (ℕ × ℕ)
-    pub is : given p r
-        ≡ record { world = placed count (own ++ property additive (number_of names p.0) p.1 ∷ []) true; numbers = numbers }
+    pub is : given p r ≡ record { world = placed count (own ++ property additive (number_of names p.0) p.1 ∷ []) true; numbers = numbers }
     pub numbered : Numbered names (done ++ names_in (p ∷ [])) count numbers
     pub new : has (number_of names p.0) own ≡ false
 
@@ -183,8 +175,7 @@ module _ (additive : ℕ → Bool) (v : WorldOf) (kinds : AreKinds additive v)
       record {
         count = count;
         numbers = numbers;
-        is =
-            ap (λ o. given_as o x values (record { world = placed count own takes; numbers = numbers }))
+        is = ap (λ o. given_as o x values (record { world = placed count own takes; numbers = numbers }))
             (i.known x ∙ ap (λ b. cond b (Some n) None) there)
             ∙ ap (λ w. record { world = w; numbers = numbers }) (given_placed n count own takes values f);
         numbered = numbered_again names done count numbers x i there;
@@ -198,8 +189,7 @@ module _ (additive : ℕ → Bool) (v : WorldOf) (kinds : AreKinds additive v)
       record {
         count = count + 1;
         numbers = (x, 64 + count) ∷ numbers;
-        is =
-            ap (λ o. given_as o x values (record { world = placed count own takes; numbers = numbers }))
+        is = ap (λ o. given_as o x values (record { world = placed count own takes; numbers = numbers }))
             (i.known x ∙ ap (λ b. cond b (Some n) None) new)
             ∙ ap (λ w. record { world = w; numbers = (x, 64 + count) ∷ numbers })
             (given_placed (64 + count) (count + 1) own takes values f
@@ -268,11 +258,9 @@ module _ (additive : ℕ → Bool) (v : WorldOf) (kinds : AreKinds additive v)
         count = a.count;
         takes = a.takes;
         numbers = a.numbers;
-        is =
-            ap (λ r. fold (λ r p. given p r) r with) o.is ∙ a.is
+        is = ap (λ r. fold (λ r p. given p r) r with) o.is ∙ a.is
             ∙ ap (λ l. record { world = placed a.count l a.takes; numbers = a.numbers }) owns;
-        numbered =
-            subst (λ d. Numbered names d a.count a.numbers)
+        numbered = subst (λ d. Numbered names d a.count a.numbers)
             (append_assoc done first (names_in with) ∙ ap (λ l. done ++ l) (sym (names_both p with))) a.numbered;
         single = subst IsSingle owns a.single;
       }

@@ -47,8 +47,7 @@ are_others m seen (n ∷ ns) h a =
 without_first : (p : Property) (ps : List Property) (ns : List ℕ) → AreOthers p.number ns
     → filter_map (λ n. found n (p ∷ ps)) ns ≡ filter_map (λ n. found n ps) ns
 without_first p ps [] a = refl
-without_first p ps (n ∷ ns) a =
-    ap (λ b. cons_option (cond b (Some p) (found n ps)) (filter_map (λ n. found n (p ∷ ps)) ns)) a.0
+without_first p ps (n ∷ ns) a = ap (λ b. cons_option (cond b (Some p) (found n ps)) (filter_map (λ n. found n (p ∷ ps)) ns)) a.0
     ∙ ap (cons_option (found n ps)) (without_first p ps ns a.1)
 
 here : (n : ℕ) → (n == n) ≡ true
@@ -78,11 +77,9 @@ module _ (additive : ℕ → Bool) where
   numbers_are [] = refl
   numbers_are (p ∷ g) = ap (λ l. p.0 ∷ l) (numbers_are g)
 
-  all_numbers : (givers : List Properties)
-      → flat_map numbers_of (map (as_properties additive) givers) ≡ flat_map (map (λ p. p.0)) givers
+  all_numbers : (givers : List Properties) → flat_map numbers_of (map (as_properties additive) givers) ≡ flat_map (map (λ p. p.0)) givers
   all_numbers [] = refl
-  all_numbers (g ∷ givers) =
-      ap (λ l. l ++ flat_map numbers_of (map (as_properties additive) givers)) (numbers_are g)
+  all_numbers (g ∷ givers) = ap (λ l. l ++ flat_map numbers_of (map (as_properties additive) givers)) (numbers_are g)
       ∙ ap (λ l. map (λ p. p.0) g ++ l) (all_numbers givers)
 
   abbrev with_number : List Properties → ℕ → Option (ℕ × List Value)
@@ -94,12 +91,10 @@ module _ (additive : ℕ → Bool) where
   one_property n None ps o qs e f = ap (λ o. cons_option o qs) e ∙ f
   one_property n (Some values) ps o qs e f = ap (λ o. cons_option o qs) e ∙ ap (λ l. property additive n values ∷ l) f
 
-  described : (own : Properties) (givers : List Properties) (ns : List ℕ)
-      → filter_map (λ n. found n (inherited_all additive own givers)) ns
+  described : (own : Properties) (givers : List Properties) (ns : List ℕ) → filter_map (λ n. found n (inherited_all additive own givers)) ns
       ≡ as_properties additive (filter_map (with_number (own ∷ givers)) ns)
   described own givers [] = refl
-  described own givers (n ∷ ns) =
-      one_property n (values_given additive (own ∷ givers) n) (filter_map (with_number (own ∷ givers)) ns)
+  described own givers (n ∷ ns) = one_property n (values_given additive (own ∷ givers) n) (filter_map (with_number (own ∷ givers)) ns)
       (found n (inherited_all additive own givers)) (filter_map (λ n. found n (inherited_all additive own givers)) ns)
       (values_agree additive own givers n) (described own givers ns)
 

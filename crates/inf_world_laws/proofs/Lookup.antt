@@ -34,8 +34,7 @@ choose_map f false x y = refl
 
 pub thing_is : (number : ℕ) (all : List Named) → thing_at number (things_in all) ≡ option_map (λ p. p.1) (named_at number all)
 thing_is number [] = refl
-thing_is number (p ∷ all) =
-    ap (λ n. cond (number == 5 + n) (Some p.1) (thing_at number (things_in all))) (things_length all)
+thing_is number (p ∷ all) = ap (λ n. cond (number == 5 + n) (Some p.1) (thing_at number (things_in all))) (things_length all)
     ∙ ap (λ t. cond (number == 5 + length all) (Some p.1) t) (thing_is number all)
     ∙ choose_map (λ p. p.1) (number == 5 + length all) p (named_at number all)
 
@@ -64,8 +63,7 @@ at_end [] o (suc n) =
     ∙ ap (λ b. cond b (Some o) (slice_get [] (suc n))) (sym other)
 at_end (x ∷ xs) o zero =
     let other : (0 == suc (length xs)) ≡ false = grind arith in ap (λ b. cond b (Some o) (Some x)) (sym other)
-at_end (x ∷ xs) o (suc n) =
-    at_end xs o n ∙ ap (λ b. cond b (Some o) (slice_get xs n)) (sym (same_test n (length xs)))
+at_end (x ∷ xs) o (suc n) = at_end xs o n ∙ ap (λ b. cond b (Some o) (slice_get xs n)) (sym (same_test n (length xs)))
 
 module _ (additive : ℕ → Bool) where
   abbrev pub object_in : Named → Object
@@ -78,8 +76,7 @@ module _ (additive : ℕ → Bool) where
 
   pub told_length : (all : List Named) → length (told all) ≡ length all
   told_length [] = refl
-  told_length (p ∷ all) =
-      length-append (told all) (object_in p ∷ []) ∙ ap (λ n. n + 1) (told_length all)
+  told_length (p ∷ all) = length-append (told all) (object_in p ∷ []) ∙ ap (λ n. n + 1) (told_length all)
       ∙ (let h : length all + 1 ≡ length (p ∷ all) = omega arith in h)
 
   next_by : (number n : ℕ) (o : Object) (y : Option Object) (b : Bool) → nat_le number 4 ≡ b
@@ -178,5 +175,4 @@ module _ (additive : ℕ → Bool) where
 
   pub class_there : (c : ℕ) (all : List Named) (w : WorldOf) → w.objects ≡ told all → is_some (class_at c w.objects) ≡ true
       → IsClass c all w
-  class_there c all w are fits =
-      class_in_all c all w (named_at c all) refl (ap (class_at c) are ∙ ap class_in (declared_is c all)) fits
+  class_there c all w are fits = class_in_all c all w (named_at c all) refl (ap (class_at c) are ∙ ap class_in (declared_is c all)) fits

@@ -22,8 +22,7 @@ turned m n = grind arith
 
 pub has_is : (n : ℕ) (own : List Property) → has n own ≡ contains (numbers_of own) n
 has_is n [] = refl
-has_is n (p ∷ own) =
-    found_or (p.number == n) p (found n own) ∙ ap (λ b. b || has n own) (turned p.number n)
+has_is n (p ∷ own) = found_or (p.number == n) p (found n own) ∙ ap (λ b. b || has n own) (turned p.number n)
     ∙ ap (λ b. nat_eq n p.number || b) (has_is n own)
 
 lack_by : (b : Bool) (p : Property) (ps : List Property) (ns : List ℕ) → numbers_of ps ≡ ns
@@ -42,8 +41,7 @@ numbers_lacked own (p ∷ above) =
 
 pub same_seen : (s t xs : List ℕ) → ((n : ℕ) → contains s n ≡ contains t n) → distinct s xs ≡ distinct t xs
 same_seen s t [] h = refl
-same_seen s t (x ∷ xs) h =
-    ap (λ b. cond b (distinct s xs) (x ∷ distinct (x ∷ s) xs)) (h x)
+same_seen s t (x ∷ xs) h = ap (λ b. cond b (distinct s xs) (x ∷ distinct (x ∷ s) xs)) (h x)
     ∙ ap (λ l. cond (contains t x) l (x ∷ distinct (x ∷ s) xs)) (same_seen s t xs h)
     ∙ ap (λ l. cond (contains t x) (distinct t xs) (x ∷ l)) (same_seen (x ∷ s) (x ∷ t) xs (λ n. ap (λ b. nat_eq n x || b) (h n)))
 
@@ -106,8 +104,7 @@ or_true false = refl
 abbrev pub Joins : List ℕ → List ℕ → List ℕ → Type 0
 Joins s t u = (n : ℕ) → contains u n ≡ (contains s n || contains t n)
 
-drop_by : (s t u xs : List ℕ) (x : ℕ) → Joins s t u
-    → (without s (distinct t xs) ≡ distinct u xs)
+drop_by : (s t u xs : List ℕ) (x : ℕ) → Joins s t u → (without s (distinct t xs) ≡ distinct u xs)
     → (Joins s (x ∷ t) u → without s (distinct (x ∷ t) xs) ≡ distinct u xs)
     → (Joins s (x ∷ t) (x ∷ u) → without s (distinct (x ∷ t) xs) ≡ distinct (x ∷ u) xs)
     → (b c : Bool) → contains t x ≡ b → contains s x ≡ c
@@ -127,8 +124,7 @@ drop_by s t u xs x h rest one two false false e f =
 
 pub drop_out : (s t u xs : List ℕ) → Joins s t u → without s (distinct t xs) ≡ distinct u xs
 drop_out s t u [] h = refl
-drop_out s t u (x ∷ xs) h =
-    drop_by s t u xs x h (drop_out s t u xs h) (drop_out s (x ∷ t) u xs) (drop_out s (x ∷ t) (x ∷ u) xs)
+drop_out s t u (x ∷ xs) h = drop_by s t u xs x h (drop_out s t u xs h) (drop_out s (x ∷ t) u xs) (drop_out s (x ∷ t) (x ∷ u) xs)
     (contains t x) (contains s x) refl refl
     ∙ ap (λ b. cond b (distinct u xs) (x ∷ distinct (x ∷ u) xs)) (sym (h x))
 

@@ -58,8 +58,7 @@ class_kept P c w same true o = refl
 class_kept P c w same false None = refl
 class_kept P c w same false (Some class) = same (with_named_class c class w.body)
 
-class_owns : (c : ℕ) (w : WorldOf) (z : Bool) (o : Option Object)
-    → (cond z w (class_by o c w)).body.properties.own ≡ w.body.properties.own
+class_owns : (c : ℕ) (w : WorldOf) (z : Bool) (o : Option Object) → (cond z w (class_by o c w)).body.properties.own ≡ w.body.properties.own
 class_owns c w true o = refl
 class_owns c w false None = refl
 class_owns c w false (Some class) = by (is_passed c w.body)
@@ -76,8 +75,7 @@ class_past : (f : WorldOf → WorldOf) (c : ℕ) (w : WorldOf) → (f w).objects
 class_past f c w objects passed stays join =
     ap (λ o. cond (c == 0) (f w) (class_by (class_at c o) c (f w))) objects ∙ by (c == 0) (class_at c w.objects)
   where
-    one : (class : Object) (p : Bool)
-        → record (f w) { body = cond p (f w).body (with_joined_class c class (f w).body) }
+    one : (class : Object) (p : Bool) → record (f w) { body = cond p (f w).body (with_joined_class c class (f w).body) }
         ≡ f (record w { body = cond p w.body (with_joined_class c class w.body) })
     one class true = stays
     one class false = join class
@@ -85,8 +83,7 @@ class_past f c w objects passed stays join =
     by : (z : Bool) (o : Option Object) → cond z (f w) (class_by o c (f w)) ≡ f (cond z w (class_by o c w))
     by true o = refl
     by false None = refl
-    by false (Some class) =
-        ap (λ p. record (f w) { body = cond p (f w).body (with_joined_class c class (f w).body) }) passed
+    by false (Some class) = ap (λ p. record (f w) { body = cond p (f w).body (with_joined_class c class (f w).body) }) passed
         ∙ one class (is_passed c w.body)
 
 module _ (c n : ℕ) (v : Option Value) (w : WorldOf) where
@@ -110,8 +107,7 @@ module _ (c n : ℕ) (v : Option Value) (w : WorldOf) where
   given_stays None = refl
   given_stays (Some additive) = refl
 
-  given_joins : (class : Object) (k : Option Bool)
-      → record (given_of k n v w) { body = with_joined_class c class (given_of k n v w).body }
+  given_joins : (class : Object) (k : Option Bool) → record (given_of k n v w) { body = with_joined_class c class (given_of k n v w).body }
       ≡ given_of k n v (record w { body = with_joined_class c class w.body })
   given_joins class None = refl
   given_joins class (Some additive) = by (is_lost w.body.properties.owner)
@@ -120,8 +116,7 @@ module _ (c n : ℕ) (v : Option Value) (w : WorldOf) where
       u = record w { body = with_joined_class c class w.body }
 
       given_in : Bool → WorldOf → WorldOf
-      given_in l x =
-          with_properties (cond l (lost_given n x.body.properties) (with_given (given_first n additive v) x.body.properties)) x
+      given_in l x = with_properties (cond l (lost_given n x.body.properties) (with_given (given_first n additive v) x.body.properties)) x
 
       by : (l : Bool) → record (given_in l w) { body = with_joined_class c class (given_in l w).body } ≡ given_in l u
       by true = refl
@@ -129,15 +124,13 @@ module _ (c n : ℕ) (v : Option Value) (w : WorldOf) where
 
 module _ (c : ℕ) (v : Value) (w : WorldOf) where
   abbrev further_in : Bool → WorldOf → WorldOf
-  further_in t x =
-      with_properties (cond t (record x.body.properties { own = with_last_value v x.body.properties.own }) x.body.properties) x
+  further_in t x = with_properties (cond t (record x.body.properties { own = with_last_value v x.body.properties.own }) x.body.properties) x
 
   further_passed : (t : Bool) → is_passed c (further_in t w).body ≡ is_passed c w.body
   further_passed true = refl
   further_passed false = refl
 
-  further_joins : (class : Object) (t : Bool)
-      → record (further_in t w) { body = with_joined_class c class (further_in t w).body }
+  further_joins : (class : Object) (t : Bool) → record (further_in t w) { body = with_joined_class c class (further_in t w).body }
       ≡ further_in t (record w { body = with_joined_class c class w.body })
   further_joins class true = refl
   further_joins class false = refl
@@ -173,8 +166,7 @@ module _ (f : WorldOf → WorldOf) (k : Keeps f) where
 
   all_values_past : (n : ℕ) (values : List Value) (w : WorldOf) → f (given_values n values w) ≡ given_values n values (f w)
   all_values_past n [] w = k.given n None w
-  all_values_past n (v ∷ values) w =
-      values_past values (with_given_property n (Some v) w) ∙ ap (with_values values) (k.given n (Some v) w)
+  all_values_past n (v ∷ values) w = values_past values (with_given_property n (Some v) w) ∙ ap (with_values values) (k.given n (Some v) w)
 
   as_past : (o : Option ℕ) (name : ℕ) (values : List Value) (r : Run)
       → lifted f (given_as o name values r) ≡ given_as o name values (lifted f r)
@@ -197,8 +189,7 @@ module _ (f : WorldOf → WorldOf) (k : Keeps f) where
 
   individual_fits : (o : Option ℕ) (w : WorldOf) → IndividualFits o w → IndividualFits o (f w)
   individual_fits (Some n) w h = number_fits n w h
-  individual_fits None w h =
-      subst (λ i. GivenFits (64 + i) (with_individual (f w))) (sym (k.count w))
+  individual_fits None w h = subst (λ i. GivenFits (64 + i) (with_individual (f w))) (sym (k.count w))
       (subst (GivenFits (64 + w.individuals)) (k.individual w) (number_fits (64 + w.individuals) (with_individual w) h))
 
   property_fits : (p : PropertyName) (r : Run) → PropertyFits p r → PropertyFits p (lifted f r)
@@ -226,22 +217,18 @@ classes_past g h (c ∷ classes) r = ap (with_classes classes) (h c r) ∙ class
 attributes_past : (p : PropertyName × List Value) (has : List (ℕ × Bool)) (r : Run)
     → with_attributes_of has (given p r) ≡ given p (with_attributes_of has r)
 attributes_past p [] r = refl
-attributes_past p (h ∷ has) r =
-    ap (with_attributes_of has) (given_past (with_set_attribute h.0 h.1) (set_keeps h.0 h.1) p r)
+attributes_past p (h ∷ has) r = ap (with_attributes_of has) (given_past (with_set_attribute h.0 h.1) (set_keeps h.0 h.1) p r)
     ∙ attributes_past p has (lifted (with_set_attribute h.0 h.1) r)
 
 all_past : (p : PropertyName × List Value) (parts : List Part) (r : Run)
     → before_properties parts (given p r) ≡ given p (before_properties parts r)
-all_past p parts r =
-    ap (with_attributes_of (attributes_of parts))
+all_past p parts r = ap (with_attributes_of (attributes_of parts))
     (classes_past (given p) (λ c r. given_past (with_class_of c) (class_keeps c) p r) (classes_of parts) r)
     ∙ attributes_past p (attributes_of parts) (with_classes (classes_of parts) r)
 
 attribute_past : (a : ℕ) (b : Bool) (parts : List Part) (r : Run)
     → before_properties parts (lifted (with_set_attribute a b) r) ≡ before_properties ((Has a b) ∷ parts) r
-attribute_past a b parts r =
-    ap (with_attributes_of (attributes_of parts))
-    (classes_past (lifted (with_set_attribute a b))
+attribute_past a b parts r = ap (with_attributes_of (attributes_of parts)) (classes_past (lifted (with_set_attribute a b))
     (λ c r. ap (λ w. record { world = w; numbers = r.numbers }) (class_behind_attribute c a b r.world)) (classes_of parts) r)
 
 -- Lemmas about parts in their order
@@ -257,20 +244,17 @@ in_order ((Gives p values) ∷ parts) r = in_order parts (given (p, values) r) �
 
 classes_fit : (p : PropertyName) (classes : List ℕ) (r : Run) → PropertyFits p r → PropertyFits p (with_classes classes r)
 classes_fit p [] r h = h
-classes_fit p (c ∷ classes) r h =
-    classes_fit p classes (lifted (with_class_of c) r) (property_fits (with_class_of c) (class_keeps c) p r h)
+classes_fit p (c ∷ classes) r h = classes_fit p classes (lifted (with_class_of c) r) (property_fits (with_class_of c) (class_keeps c) p r h)
 
 attributes_fit : (p : PropertyName) (has : List (ℕ × Bool)) (r : Run) → PropertyFits p r → PropertyFits p (with_attributes_of has r)
 attributes_fit p [] r h = h
-attributes_fit p (a ∷ has) r h =
-    attributes_fit p has (lifted (with_set_attribute a.0 a.1) r)
+attributes_fit p (a ∷ has) r h = attributes_fit p has (lifted (with_set_attribute a.0 a.1) r)
     (property_fits (with_set_attribute a.0 a.1) (set_keeps a.0 a.1) p r h)
 
 properties_fit : (parts : List Part) (r : Run) → PartsFit parts r → PropertiesFit (properties_of parts) (before_properties parts r)
 properties_fit [] r h = tt
 properties_fit ((InClass c) ∷ parts) r h = properties_fit parts (lifted (with_class_of c) r) h.1
-properties_fit ((Has a b) ∷ parts) r h =
-    subst (PropertiesFit (properties_of parts)) (attribute_past a b parts r)
+properties_fit ((Has a b) ∷ parts) r h = subst (PropertiesFit (properties_of parts)) (attribute_past a b parts r)
     (properties_fit parts (lifted (with_set_attribute a b) r) h.1)
 properties_fit ((Gives p values) ∷ parts) r h = (
   attributes_fit p (attributes_of parts) (with_classes (classes_of parts) r) (classes_fit p (classes_of parts) r h.0),
@@ -322,8 +306,7 @@ headed_there true place name w = refl
 headed_there false (Arrows n) name w = hung_there (parent_of (Parent.Arrows n) w.objects) n name w
 headed_there false (Inside n) name w = hung_there (parent_of (Parent.Object n) w.objects) 0 name w
 
-classes_are : (classes : List ℕ) (w : WorldOf) (numbers : List (ℕ × ℕ))
-    → with_classes classes (record { world = w; numbers = numbers })
+classes_are : (classes : List ℕ) (w : WorldOf) (numbers : List (ℕ × ℕ)) → with_classes classes (record { world = w; numbers = numbers })
     ≡ record { world = fold (λ w c. with_class_of c w) w classes; numbers = numbers }
 classes_are [] w numbers = refl
 classes_are (c ∷ classes) w numbers = classes_are classes (with_class_of c w) numbers
@@ -343,8 +326,7 @@ module _ (b : Body) (r : Run) where
       ∙ attributes_are (attributes_of b.parts) (fold (λ w c. with_class_of c w) w (classes_of b.parts)) r.numbers
 
   body_is : body_done b r ≡ declared b.short (declaration b) r
-  body_is =
-      ap ended (in_order b.parts (begun b r)) ∙ ap (λ r. ended (all_given b.parts r)) before_is
+  body_is = ap ended (in_order b.parts (begun b r)) ∙ ap (λ r. ended (all_given b.parts r)) before_is
 
   body_fits : (limits : Limits) → (h : BodiesFit limits (b ∷ []) r) → DeclarationFits limits b.short (declaration b) r
   body_fits limits h = record {
@@ -355,8 +337,7 @@ module _ (b : Body) (r : Run) where
   }
 
 module _ (limits : Limits) where
-  bodies_are : (bodies : List Body) (r : Run)
-      → bodies_done bodies r ≡ all_declared (map (λ b. b.short) bodies) (map declaration bodies) r
+  bodies_are : (bodies : List Body) (r : Run) → bodies_done bodies r ≡ all_declared (map (λ b. b.short) bodies) (map declaration bodies) r
   bodies_are [] r = refl
   bodies_are (b ∷ bodies) r =
       bodies_are bodies (body_done b r) ∙ ap (all_declared (map (λ b. b.short) bodies) (map declaration bodies)) (body_is b r)
@@ -366,8 +347,7 @@ module _ (limits : Limits) where
   bodies_fit [] r h = tt
   bodies_fit (b ∷ bodies) r h = (
     body_fits b r limits (h.0, h.1, tt),
-    subst (NoneRefused limits (map (λ b. b.short) bodies) (map declaration bodies)) (body_is b r)
-        (bodies_fit bodies (body_done b r) h.2),
+    subst (NoneRefused limits (map (λ b. b.short) bodies) (map declaration bodies)) (body_is b r) (bodies_fit bodies (body_done b r) h.2),
   )
 
 -- Lemmas about the tree
@@ -407,8 +387,7 @@ are_things : (additive : ℕ → Bool) (bodies : List Body) (objects : List Obje
     → AreThings additive bodies objects
 are_things additive bodies objects e =
     let all = things additive (map declaration bodies) in
-    let above : parents_of (all_objects objects) ≡ parents all =
-    first_parents objects
+    let above : parents_of (all_objects objects) ≡ parents all = first_parents objects
     ∙ ap (λ l. 0 ∷ 0 ∷ 0 ∷ 0 ∷ l) (ap (map (λ o. o.parent)) e
     ∙ parents_told additive (map (λ b. b.short) bodies) all (same_length additive bodies)) in
     record {

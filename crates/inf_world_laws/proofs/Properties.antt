@@ -68,8 +68,7 @@ module _ (additive : ℕ → Bool) (n : ℕ) where
 
   found_is : (g : Properties) → found n (as_properties additive g) ≡ option_map P (values_in n g)
   found_is [] = refl
-  found_is ((m, values) ∷ g) =
-      found_by m values (found n (as_properties additive g)) (values_in n g) (m == n) refl (found_is g)
+  found_is ((m, values) ∷ g) = found_by m values (found n (as_properties additive g)) (values_in n g) (m == n) refl (found_is g)
 
   above_by : (i k : Option (List Value)) (above : List Property) → found n above ≡ option_map P k
       → found_or_above n (option_map P i) above ≡ option_map P (both (additive n) i k)
@@ -87,8 +86,7 @@ module _ (additive : ℕ → Bool) (n : ℕ) where
   above_is : (givers : List Properties) (above : List Property) (k : Option (List Value)) → found n above ≡ option_map P k
       → found n (inherited_above additive above givers) ≡ option_map P (all_by k givers)
   above_is [] above k e = e ∙ ap (option_map P) (nothing_behind (additive n) k)
-  above_is (g ∷ givers) above k e =
-      above_is givers (inherited above (as_properties additive g)) (both (additive n) k (values_in n g))
+  above_is (g ∷ givers) above k e = above_is givers (inherited above (as_properties additive g)) (both (additive n) k (values_in n g))
       (found-inherited above (as_properties additive g) n
       ∙ ap (λ o. found_or_above n o (as_properties additive g)) e
       ∙ above_by k (values_in n g) (as_properties additive g) (found_is g))
@@ -97,8 +95,7 @@ module _ (additive : ℕ → Bool) (n : ℕ) where
       ∙ ap (whole (additive n)) (front_is n g givers)))
 
 pub values_agree : ValuesAgree
-values_agree additive own givers n =
-    found-inherited (as_properties additive own) (inherited_above additive [] givers) n
+values_agree additive own givers n = found-inherited (as_properties additive own) (inherited_above additive [] givers) n
     ∙ ap (λ o. found_or_above n o (inherited_above additive [] givers)) (found_is additive n own)
     ∙ above_by additive n (values_in n own) (all_by additive n None givers) (inherited_above additive [] givers)
     (above_is additive n givers [] None refl)

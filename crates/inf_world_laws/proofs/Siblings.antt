@@ -20,16 +20,14 @@ kept number k parent (p ∷ above) h =
     kept_by number k (p == parent) (children_from (k + 1) parent above) h (kept number (k + 1) parent above (omega arith))
 
 -- one that is not behind it is dropped
-dropped : (number k : ℕ) (b : Bool) (c : List ℕ) → k ≤ number
-    → filter (nat_lt number) (cond b (k ∷ c) c) ≡ filter (nat_lt number) c
+dropped : (number k : ℕ) (b : Bool) (c : List ℕ) → k ≤ number → filter (nat_lt number) (cond b (k ∷ c) c) ≡ filter (nat_lt number) c
 dropped number k true c h =
     let before : nat_lt number k ≡ false = grind arith in
     ap (λ b. cond b (k ∷ filter (nat_lt number) c) (filter (nat_lt number) c)) before
 dropped number k false c h = refl
 
 abbrev next_of : ℕ → ℕ → ℕ → List ℕ → ℕ
-next_of number first parent above =
-    if parent == 0 then 0 else first_number (filter (nat_lt number) (children_from first parent above))
+next_of number first parent above = if parent == 0 then 0 else first_number (filter (nat_lt number) (children_from first parent above))
 
 sibling_is : (k first number : ℕ) (above : List ℕ) → number ≡ first + k
     → sibling_from number first above ≡ next_of number first (slice_index_or above k 0) above

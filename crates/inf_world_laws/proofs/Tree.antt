@@ -22,16 +22,14 @@ here b n = if b then Some n else None
 pub from_end : (a k : ℕ) (xs : List Object) (o : Object)
     → latest_from a k (xs ++ o ∷ []) ≡ or_latest (here (has_arrows a o) (k + length xs)) (latest_from a k xs)
 from_end a k [] o = ap (here (has_arrows a o)) (let h : k ≡ k + 0 = omega arith in h) ∙ sym (or_none (here (has_arrows a o) (k + 0)))
-from_end a k (x ∷ xs) o =
-    ap (λ l. or_latest l (here (has_arrows a x) k)) (from_end a (k + 1) xs o)
+from_end a k (x ∷ xs) o = ap (λ l. or_latest l (here (has_arrows a x) k)) (from_end a (k + 1) xs o)
     ∙ or_turned (here (has_arrows a o) (k + 1 + length xs)) (latest_from a (k + 1) xs) (here (has_arrows a x) k)
     ∙ ap (λ n. or_latest (here (has_arrows a o) n) (or_latest (latest_from a (k + 1) xs) (here (has_arrows a x) k)))
     (let h : k + 1 + length xs ≡ k + length (x ∷ xs) = omega arith in h)
 
 last_length : (additive : ℕ → Bool) (name : List ℕ) (before : List Thing) → length (latest_last additive name before) ≡ length before
 last_length additive name [] = refl
-last_length additive name (t ∷ before) =
-    length-append (latest_last additive name before) (object_of additive name t ∷ [])
+last_length additive name (t ∷ before) = length-append (latest_last additive name before) (object_of additive name t ∷ [])
     ∙ ap (λ n. n + 1) (last_length additive name before) ∙ (let h : length before + 1 ≡ length (t ∷ before) = omega arith in h)
 
 pub has_is : (additive : ℕ → Bool) (name : List ℕ) (a : ℕ) (t : Thing) (b : Bool) → t.is_class ≡ b

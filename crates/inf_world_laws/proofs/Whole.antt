@@ -65,8 +65,7 @@ all_whole before t old new c u e = by (c == 5 + length before) e (old c u)
 abbrev with_said : WorldOf → List (Option Bool) → WorldOf
 with_said w said = record w { body = record w.body { said = said } }
 
-all_said : (has : List (ℕ × Bool)) (w : WorldOf)
-    → fold (λ w h. with_set_attribute h.0 h.1 w) w has
+all_said : (has : List (ℕ × Bool)) (w : WorldOf) → fold (λ w h. with_set_attribute h.0 h.1 w) w has
     ≡ with_said w (fold (λ said h. slice_set said h.0 (Some h.1)) w.body.said has)
 all_said [] w = refl
 all_said (h ∷ has) w = all_said has (with_set_attribute h.0 h.1 w)
@@ -150,8 +149,7 @@ module _ (limits : Limits) (additive : ℕ → Bool) (names : List ℕ) where
       (attributes_agree above d.has)
       ∙ ap (λ p. record (object_of additive name t) { properties = p }) (properties_agree additive own lists single) in
       subst (λ r. Stands additive names (done ++ names_in d.with) kinds ((name, t) ∷ all) r) (sym ends) (record {
-        objects =
-            ap (λ b. r.world.objects ++ cond b [] (ended
+        objects = ap (λ b. r.world.objects ++ cond b [] (ended
             (placed additive u kind_there owned g.count (as_given additive u kind_there owned names d.with) g.takes).body
             ∷ [])) owned
             ∙ ap (λ o. r.world.objects ++ o ∷ []) object
@@ -191,10 +189,5 @@ pub worlds_agree : WorldsAgree
 worlds_agree limits additive shorts declarations w none zero kinds fits =
     let names = all_names declarations in
     run_is limits additive names w.declared shorts declarations [] [] (record { world = w; numbers = [] }) refl kinds
-    (record {
-      objects = none;
-      kinds = refl;
-      whole = nothing_whole;
-      numbered = record { counted = zero; known = λ x. refl };
-    }) fits
+    (record { objects = none; kinds = refl; whole = nothing_whole; numbered = record { counted = zero; known = λ x. refl } }) fits
     ∙ ap (objects_of additive shorts) (sym (reverse_made additive names [] declarations))

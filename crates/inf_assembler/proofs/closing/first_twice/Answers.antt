@@ -29,8 +29,7 @@ loop-entry-preserved c =
           ap is_some (sym (w.place_of.ensures ∙ ap (λ xs. found xs label.number) w.as_slice.ensures.value ∙ now.seen label.number))
           ∙ sym w.is_some.ensures ∙ w.if-is_some.false in
           record {
-            seen =
-                λ n. ap (λ v. found v.items n) w.seen-is ∙ w.in_ok-note.ensures n
+            seen = λ n. ap (λ v. found v.items n) w.seen-is ∙ w.in_ok-note.ensures n
                 ∙ ap (λ o. first_of o (only label.number entry.place n)) (now.seen n)
                 ∙ ap (λ what. first_of (K n) (cond (marks n what) (Some entry.place) None)) (sym w.in-Marks.is)
                 ∙ ap (λ p. first_of (K n) (cond (marks n entry.what) (Some p) None)) same ∙ sym (place n);
@@ -38,8 +37,7 @@ loop-entry-preserved c =
                 (ap (kept_again (take i kept)) w.in-Marks.is ∙ again_new (take i kept) label new) ∙ now.left;
           })
       | in_default w ↦ record {
-        seen =
-            λ n. ap (λ v. found v.items n) w.seen-is ∙ now.seen n ∙ sym (first_of-none (K n))
+        seen = λ n. ap (λ v. found v.items n) w.seen-is ∙ now.seen n ∙ sym (first_of-none (K n))
             ∙ ap (λ b. first_of (K n) (cond b (Some (entry.place - 0)) None)) (sym (marks_other n entry.what w.in_default.not-Marks))
             ∙ sym (place n);
         left = twice_step i kept nothing c.loop-entry-test.true (again_other (take i kept) entry.what w.in_default.not-Marks) ∙ now.left;

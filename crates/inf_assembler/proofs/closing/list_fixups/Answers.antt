@@ -51,8 +51,7 @@ loop-entry-preserved c =
     elim c.match-entry.branch [
       | in-Refers+in_ok-add w ↦ (
           let fixup : Fixup = record { area = AreaName.Code; place = w.saturating_sub.result; target = w.in-Refers.target } in
-          let here : fixup_at (entry.place - saved) entry.what ≡ fixup ∷ [] =
-          ap (fixup_at (entry.place - saved)) w.in-Refers.is
+          let here : fixup_at (entry.place - saved) entry.what ≡ fixup ∷ [] = ap (fixup_at (entry.place - saved)) w.in-Refers.is
           ∙ ap (λ p. record { area = AreaName.Code; place = p; target = w.in-Refers.target } ∷ []) (sym w.saturating_sub.ensures) in
           let is : c.match-entry.refs.list ≡ list ++ fixup ∷ [] = ap (λ r. r.list) (w.refs-is ∙ w.in_ok-add.ensures.ok) in
           let same = ap (λ r. r.limit) (w.refs-is ∙ w.in_ok-add.ensures.ok) in
@@ -62,8 +61,7 @@ loop-entry-preserved c =
             limit = same ∙ now.limit;
             room = omega (arith, ap length is, length-append list (fixup ∷ []), w.in_ok-add.ensures.room, same);
             so_far = is ∙ ap (λ xs. xs ++ fixup ∷ []) now.so_far ∙ append_assoc c.args.refs.now.list now.added (fixup ∷ []);
-            left =
-                ap (λ xs. xs ++ kept_fixups long (saved + c.saving-saved.result) (drop (i + 1) kept)) is
+            left = ap (λ xs. xs ++ kept_fixups long (saved + c.saving-saved.result) (drop (i + 1) kept)) is
                 ∙ ap (λ hs. (list ++ fixup ∷ []) ++ hs) next
                 ∙ append_assoc list (fixup ∷ []) rest ∙ ap (λ hs. list ++ (hs ++ rest)) (sym here) ∙ left;
           })
@@ -78,8 +76,7 @@ loop-entry-preserved c =
             limit = same ∙ now.limit;
             room = omega (arith, ap length is, now.room, same);
             so_far = is ∙ now.so_far;
-            left =
-                ap (λ xs. xs ++ kept_fixups long (saved + c.saving-saved.result) (drop (i + 1) kept)) is ∙ ap (λ hs. list ++ hs) next
+            left = ap (λ xs. xs ++ kept_fixups long (saved + c.saving-saved.result) (drop (i + 1) kept)) is ∙ ap (λ hs. list ++ hs) next
                 ∙ ap (λ hs. list ++ (hs ++ rest)) (sym here) ∙ left;
           })
     ]

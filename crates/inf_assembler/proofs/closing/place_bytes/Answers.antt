@@ -27,8 +27,7 @@ loop-byte-preserved g c =
     length-moved to c.args.from n xs c.requires.before (omega (arith, c.requires.within, c.requires.ordered)) in
     record {
       at = omega (arith, c.loop-byte.invariant.at);
-      bytes =
-          c.patch_byte.ensures ∙ ap (λ k. set (g.A.Area.bytes c.loop-byte.area) k byte) c.loop-byte.invariant.at
+      bytes = c.patch_byte.ensures ∙ ap (λ k. set (g.A.Area.bytes c.loop-byte.area) k byte) c.loop-byte.invariant.at
           ∙ written_more (to + n) i byte c.args.added.now ys (g.A.Area.bytes c.loop-byte.area) c.loop-byte.invariant.bytes
           c.loop-byte-test.true (omega (arith, long, c.requires.room, c.loop-byte-test.true)) refl;
     }

@@ -4,9 +4,7 @@ use Rattle.inf_command.proofs.Cutting.{run_cut}
 use Rattle.inf_command.proofs.directories.parts_of.Goals as goal
 
 pub returns : goal.returns
-returns c =
-    IfOk-weaker c.collect.result _ _
-    (λ parts whole.
+returns c = IfOk-weaker c.collect.result _ _ (λ parts whole.
     let run = whole tt in
     let cut = c.split.ensures.runs run.0 run.0.seen run.1 in
     let at_commas = cut.2 (lit< tt) ((λ q same. same), (λ w o found. found)) in

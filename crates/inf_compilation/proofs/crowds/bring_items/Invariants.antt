@@ -5,6 +5,5 @@ use Rattle.inf_compilation.proofs.crowds.bring_items.Given as goal
 
 -- the items that are left, brought behind those so far, are all items
 abbrev pub invariant-loop-item : goal.invariant-loop-item
-invariant-loop-item g l =
-    items_brought l.settings l.names (drop l.item-index l.items) (crowd l.crowd)
+invariant-loop-item g l = items_brought l.settings l.names (drop l.item-index l.items) (crowd l.crowd)
     ≡ items_brought l.settings l.names l.items (crowd l.fn.crowd)

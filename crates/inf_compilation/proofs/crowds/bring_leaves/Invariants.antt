@@ -6,6 +6,5 @@ use Rattle.inf_compilation.proofs.crowds.bring_leaves.Given as goal
 
 -- the leaves that are left, brought behind those so far, are all leaves
 abbrev pub invariant-loop-leaf : goal.invariant-loop-leaf
-invariant-loop-leaf g l =
-    leaves_brought l.settings (listed l.locals) l.out l.tokens (drop l.leaf-index l.leaves) (crowd l.crowd)
+invariant-loop-leaf g l = leaves_brought l.settings (listed l.locals) l.out l.tokens (drop l.leaf-index l.leaves) (crowd l.crowd)
     ≡ leaves_brought l.settings (listed l.locals) l.out l.tokens l.leaves (crowd l.fn.crowd)

@@ -13,6 +13,5 @@ returns-clause-rank g c =
     (λ d. any_default (texts_of words) c.args.place d [] within)
 
 pub returns-clause-text : goal.returns-clause-text
-returns-clause-text g c =
-    behind_head c.args.dictionary.now.list (9 * c.args.place)
+returns-clause-text g c = behind_head c.args.dictionary.now.list (9 * c.args.place)
     ∙ text_at c.args.dictionary.now.list c.args.place c.is_in_order.ensures.whole c.requires

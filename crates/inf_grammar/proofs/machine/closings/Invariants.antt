@@ -4,6 +4,5 @@ use Rattle.inf_grammar.specs.Routines.{closings}
 use Rattle.inf_grammar.proofs.machine.closings.Given as goal
 
 abbrev pub invariant-loop-symbol : goal.invariant-loop-symbol
-invariant-loop-symbol l =
-    (l.count + closings (reverse l.symbol-iterator.iter.rest.now) ≡ closings (reverse l.stack))
+invariant-loop-symbol l = (l.count + closings (reverse l.symbol-iterator.iter.rest.now) ≡ closings (reverse l.stack))
     × (l.count + length l.symbol-iterator.iter.rest.now ≡ length l.stack)

@@ -15,7 +15,6 @@ loop-place-preserved c =
     )
 
 pub returns : goal.returns
-returns c =
-    sym (merged_end (λ a s. said_or s a) c.loop-place.place c.loop-place.all c.args.said.now
+returns c = sym (merged_end (λ a s. said_or s a) c.loop-place.place c.loop-place.all c.args.said.now
     (omega (arith, c.loop-place.invariant.1, c.loop-place-test.false, c.loop-place.auto.place-end)))
     ∙ c.loop-place.invariant.0

@@ -12,7 +12,6 @@ loop-place-preserved c =
     )
 
 pub returns : goal.returns
-returns c =
-    sym (merged_end (λ a b. a || b) c.loop-place.place c.loop-place.above c.args.class.now
+returns c = sym (merged_end (λ a b. a || b) c.loop-place.place c.loop-place.above c.args.class.now
     (omega (arith, c.loop-place.invariant.1, c.loop-place-test.false, c.loop-place.auto.place-end)))
     ∙ c.loop-place.invariant.0

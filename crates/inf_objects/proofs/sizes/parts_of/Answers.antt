@@ -4,37 +4,20 @@ use Rattle.inf_objects.specs.{Measures.kind_part, declared.sizes.Part.Part}
 use Rattle.inf_objects.proofs.Measuring.{kind_within, parts_within}
 use Rattle.inf_objects.proofs.sizes.parts_of.Goals as goal
 
-pub plus-all-requires-clause-bytes : goal.plus-all-requires-clause-bytes
-plus-all-requires-clause-bytes c =
+pub plus-all-requires : goal.plus-all-requires
+plus-all-requires c =
     let ps = c.args.properties.now in
-    let i = c.loop-property.property-index in
     let p = c.property-item.result in
     let kind = c.args.individual in
-    let step = sum_step (λ q. (kind_part kind q).bytes) ps i p c.loop-property-test.true c.property-item.is in
-    let here = ap (λ (s : Part). s.bytes) c.kind_part.ensures in
-    omega (arith, step, here, c.loop-property.invariant.bytes, parts_within kind ps, c.requires.small)
-
-pub plus-all-requires-clause-later : goal.plus-all-requires-clause-later
-plus-all-requires-clause-later c =
-    let ps = c.args.properties.now in
-    let i = c.loop-property.property-index in
-    let p = c.property-item.result in
-    let kind = c.args.individual in
-    let step = sum_step (λ q. (kind_part kind q).bytes) ps i p c.loop-property-test.true c.property-item.is in
+    let now = c.loop-property.invariant in
+    let step = sum_step (λ q. (kind_part kind q).bytes) ps c.loop-property.property-index p c.loop-property-test.true c.property-item.is in
     let here = ap (λ (s : Part). s.bytes) c.kind_part.ensures in
     let later = ap (λ (s : Part). s.later) c.kind_part.ensures in
-    omega (
-      arith,
-      step,
-      here,
-      later,
-      (kind_within kind p).0,
-      c.loop-property.invariant.few,
-      c.loop-property.invariant.bytes,
-      parts_within
-          kind ps,
-      c.requires.small,
-    )
+    let most = parts_within kind ps in
+    record {
+      bytes = omega (arith, step, here, now.bytes, most, c.requires.small);
+      later = omega (arith, step, here, later, (kind_within kind p).0, now.few, now.bytes, most, c.requires.small);
+    }
 
 pub loop-property-preserved : goal.loop-property-preserved
 loop-property-preserved c =
@@ -66,11 +49,10 @@ returns-clause-small c =
     omega (arith, c.loop-property.invariant.bytes, parts_within c.args.individual c.args.properties.now, c.requires.small)
 
 pub returns-clause-few : goal.returns-clause-few
-returns-clause-few c =
-    omega (
-      arith,
-      c.loop-property.invariant.few,
-      c.loop-property.invariant.bytes,
-      parts_within c.args.individual c.args.properties.now,
-      c.requires.small,
-    )
+returns-clause-few c = omega (
+  arith,
+  c.loop-property.invariant.few,
+  c.loop-property.invariant.bytes,
+  parts_within c.args.individual c.args.properties.now,
+  c.requires.small,
+)

@@ -27,6 +27,5 @@ loop-parent-preserved c =
     }
 
 pub returns : goal.returns
-returns c =
-    sym (none_left c.loop-parent.left.now c.loop-parent.links.items c.in_default.ensures.cases)
+returns c = sym (none_left c.loop-parent.left.now c.loop-parent.links.items c.in_default.ensures.cases)
     ∙ c.loop-parent.invariant.made ∙ made-links c.args.parents.now c.requires

@@ -12,8 +12,7 @@ loop-operand-preserved c =
     let i = c.loop-operand.operand-index in
     let inv = c.loop-operand.invariant in
     record {
-      bytes = c.push_operand.ensures.value
-          ∙ ap (λ b. b ++ long_bytes (operand_cells (get_or operands i (Operand.Large 0)))) inv.bytes
+      bytes = c.push_operand.ensures.value ∙ ap (λ b. b ++ long_bytes (operand_cells (get_or operands i (Operand.Large 0)))) inv.bytes
           ∙ long-more (heading (row_of instruction.opcode) operands) operands i (Operand.Large 0) c.loop-operand-test.true;
       few = omega (arith, inv.few, c.push_operand.ensures.few);
     }

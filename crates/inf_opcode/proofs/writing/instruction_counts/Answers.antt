@@ -28,32 +28,27 @@ returns-clause-value c =
       ap (λ x. x.bytes) given,
       c.store_len-store.ensures.bytes,
       c.branch_count-branch.ensures.bytes,
-      length-long
-          (a ++ b ++ s) r,
+      length-long (a ++ b ++ s) r,
       length-long (a ++ b) s,
       length-long a b,
       ap length (long-plain head),
     ) in
-    let labels : c.operands_counts-given.result.labels + c.branch_count-branch.result ≡ all.labels =
-    omega (
+    let labels : c.operands_counts-given.result.labels + c.branch_count-branch.result ≡ all.labels = omega (
       arith,
       ap (λ x. x.labels) given,
       c.store_len-store.ensures.labels,
       c.branch_count-branch.ensures.labels,
-      labels-append
-          (a ++ b ++ s) r,
+      labels-append (a ++ b ++ s) r,
       labels-append (a ++ b) s,
       labels-append a b,
       labels-plain head,
     ) in
-    let fixups : c.operands_counts-given.result.fixups ≡ all.fixups =
-    omega (
+    let fixups : c.operands_counts-given.result.fixups ≡ all.fixups = omega (
       arith,
       ap (λ x. x.fixups) given,
       c.store_len-store.ensures.fixups,
       c.branch_count-branch.ensures.fixups,
-      fixups-append
-          (a ++ b ++ s) r,
+      fixups-append (a ++ b ++ s) r,
       fixups-append (a ++ b) s,
       fixups-append a b,
       fixups-plain head,

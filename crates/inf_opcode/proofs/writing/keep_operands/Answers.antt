@@ -5,15 +5,13 @@ use Rattle.inf_opcode.proofs.{Counting.length-long, Counting.operands_more, Fron
 use Rattle.inf_opcode.proofs.writing.keep_operands.Goals as goal
 
 pub overflow_add-place : goal.overflow_add-place
-overflow_add-place c =
-    omega (
-      arith,
-      c.requires,
-      c.loop-operand.invariant.place,
-      c.operand_len-place.ensures.value,
-      long-within c.args.operands.now
-          c.loop-operand.operand-index (Operand.Large 0) c.loop-operand-test.true,
-    )
+overflow_add-place c = omega (
+  arith,
+  c.requires,
+  c.loop-operand.invariant.place,
+  c.operand_len-place.ensures.value,
+  long-within c.args.operands.now c.loop-operand.operand-index (Operand.Large 0) c.loop-operand-test.true,
+)
 
 pub loop-operand-preserved : goal.loop-operand-preserved
 loop-operand-preserved c =
@@ -24,8 +22,7 @@ loop-operand-preserved c =
     let here = operand_cells (get_or operands i (Operand.Large 0)) in
     let more = operands_more operands i (Operand.Large 0) c.loop-operand-test.true in
     record {
-      kept = c.in_ok-keep_operand.ensures.ok
-          ∙ ap (λ k. k ++ kept_from c.loop-operand.place here) inv.kept
+      kept = c.in_ok-keep_operand.ensures.ok ∙ ap (λ k. k ++ kept_from c.loop-operand.place here) inv.kept
           ∙ ap (λ n. (c.args.kept.now.items ++ kept_from c.args.first before) ++ kept_from n here) inv.place
           ∙ append_assoc c.args.kept.now.items (kept_from c.args.first before) (kept_from (c.args.first + length (long_bytes before)) here)
           ∙ ap (λ k. c.args.kept.now.items ++ k) (sym (kept-more c.args.first operands i (Operand.Large 0) c.loop-operand-test.true));

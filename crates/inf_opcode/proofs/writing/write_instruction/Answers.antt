@@ -13,19 +13,16 @@ keep_front-requires g c =
     ∙ length-append bytes front ∙ ap (λ n. n + length front) (sym c.len-start.ensures.value)
 
 pub returns-in_err-append-clause-err : goal.returns-in_err-append-clause-err
-returns-in_err-append-clause-err g c =
-    on_err c.from_residual.result
+returns-in_err-append-clause-err g c = on_err c.from_residual.result
     (longer_by _ _ [] _ _ [] (c.in_err-append.ensures.err ∙ sym (append-nil (g.A.Area.bytes c.args.area.now)))
     (sym (append-nil c.args.kept.now.items)))
 
 pub returns-in_err-keep_front-clause-err : goal.returns-in_err-keep_front-clause-err
-returns-in_err-keep_front-clause-err g c =
-    on_err c.from_residual-in_err-keep_front.result
+returns-in_err-keep_front-clause-err g c = on_err c.from_residual-in_err-keep_front.result
     (longer_by _ _ _ _ _ c.keep_front.ensures.longer.0 c.in_ok-append.ensures.ok c.keep_front.ensures.longer.1)
 
 pub returns-in_err-append_text-clause-err : goal.returns-in_err-append_text-clause-err
-returns-in_err-append_text-clause-err g c =
-    on_err c.from_residual-in_err-append_text.result
+returns-in_err-append_text-clause-err g c = on_err c.from_residual-in_err-append_text.result
     (longer_by _ _ _ _ _ c.keep_front.ensures.longer.0 (c.in_err-append_text.ensures.err ∙ c.in_ok-append.ensures.ok)
     c.keep_front.ensures.longer.1)
 

@@ -20,14 +20,12 @@ loop-leaf-preserved g c =
     let split : c.loop-leaf.left.now ≡ leaf ∷ others = c.in-Some.ensures.cases.0 in
     let pushed : c.push.new.self.items ≡ items ++ op ∷ [] = c.in_ok-push.ensures.items in
     record {
-      looked =
-          ap (λ (ops : List Operand). looked_from locals out tokens others (no_names false) ops) pushed
+      looked = ap (λ (ops : List Operand). looked_from locals out tokens others (no_names false) ops) pushed
           ∙ looked_on locals locals out tokens leaf others (no_names false) items op (alike_self locals)
           (c.in-Some-looked_plainly.ensures.leaf (no_names false))
           ∙ sym (ap (λ (ls : List Leaf). looked_from locals out tokens ls (no_names false) items) split)
           ∙ now.looked;
-      stay =
-          λ e limits set. let parts = and_parts c.loop-leaf.stay c.stays-stay.result e in
+      stay = λ e limits set. let parts = and_parts c.loop-leaf.stay c.stays-stay.result e in
           ap (λ (ops : List Operand). settled limits set locals tokens others (record { out = out; operands = ops })) pushed
           ∙ leaf_on limits set locals tokens leaf others out items op (c.stays-stay.ensures parts.1) c.in-Some-looked_plainly.ensures.looked
           ∙ sym (ap (λ (ls : List Leaf). settled limits set locals tokens ls (record { out = out; operands = items })) split)

@@ -10,15 +10,13 @@ is_there f None y e there = absurd (cc there)
 is_there f (Some a) y e there = ap is_some (sym e)
 
 pub returns-clause-name : goal.returns-clause-name
-returns-clause-name g c =
-    λ e. named_stays c.args.out.now c.args.tokens.now c.args.at c.args.operand
+returns-clause-name g c = λ e. named_stays c.args.out.now c.args.tokens.now c.args.at c.args.operand
     (ap (λ (o : Out). is_new (length o.names.names) c.args.operand) (sym c.out.view_is)
     ∙ ap (λ (n : ℕ). is_new n c.args.operand) (sym c.len.ensures.count) ∙ sym c.is_new.ensures ∙ c.if-is_new.false)
     (is_there named c.name_at.result _ c.name_at.ensures.value (sym c.is_some.ensures ∙ e))
 
 pub returns-clause-alone : goal.returns-clause-alone
-returns-clause-alone g c =
-    λ e. alone_stays c.args.out.now c.args.tokens.now c.args.at c.args.operand
+returns-clause-alone g c = λ e. alone_stays c.args.out.now c.args.tokens.now c.args.at c.args.operand
     (ap (λ (o : Out). is_new (length o.names.names) c.args.operand) (sym c.out.view_is)
     ∙ ap (λ (n : ℕ). is_new n c.args.operand) (sym c.len.ensures.count) ∙ sym c.is_new.ensures ∙ c.if-is_new.false)
     (is_there named c.name_at.result _ c.name_at.ensures.value (sym c.is_some.ensures ∙ e))

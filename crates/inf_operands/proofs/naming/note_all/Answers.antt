@@ -43,18 +43,15 @@ loop-leaf-preserved g c =
     let pushed : c.push.new.self.items ≡ items ++ op ∷ [] = c.in_ok-push.ensures.items in
     record {
       alike = alike_on tokens leaf before first new now.alike c.noted.ensures.named;
-      named =
-          ap (λ (ls : List Local). leaves_named tokens others ls) c.noted.ensures.named
+      named = ap (λ (ls : List Local). leaves_named tokens others ls) c.noted.ensures.named
           ∙ sym (ap (λ (ls : List Leaf). leaves_named tokens ls before) split)
           ∙ now.named;
-      looked =
-          ap (λ (ops : List Operand). looked_from first out tokens others (no_names false) ops) pushed
+      looked = ap (λ (ops : List Operand). looked_from first out tokens others (no_names false) ops) pushed
           ∙ looked_on before first out tokens leaf others (no_names false) items op now.alike
           (c.in-Some-noted.ensures.leaf (no_names false))
           ∙ sym (ap (λ (ls : List Leaf). looked_from first out tokens ls (no_names false) items) split)
           ∙ now.looked;
-      stay =
-          λ e limits set. let parts = and_parts c.loop-leaf.stay c.stays-stay.result e in
+      stay = λ e limits set. let parts = and_parts c.loop-leaf.stay c.stays-stay.result e in
           ap (λ (ops : List Operand). settled limits set first tokens others (record { out = out; operands = ops })) pushed
           ∙ leaf_on limits set first tokens leaf others out items op (c.stays-stay.ensures parts.1)
           (c.in-Some-noted.ensures.looked ∙ leaf_looked before first out.names out.code.scale tokens leaf now.alike)

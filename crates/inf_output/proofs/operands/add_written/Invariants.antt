@@ -4,6 +4,5 @@ use Rattle.inf_output.proofs.operands.add_written.Given as goal
 
 -- what is there, with what is left, is all
 abbrev pub invariant-loop-operand : goal.invariant-loop-operand
-invariant-loop-operand l =
-    (l.all.items ++ map written (drop l.operand-index l.operands) ≡ l.initial.all.items ++ map written l.operands)
+invariant-loop-operand l = (l.all.items ++ map written (drop l.operand-index l.operands) ≡ l.initial.all.items ++ map written l.operands)
     × (length l.all.items + (length l.operands - l.operand-index) ≤ 8)

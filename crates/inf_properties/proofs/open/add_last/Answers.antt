@@ -8,8 +8,7 @@ returns-in_err-cover-clause-at c =
     AreAt-kept 0 c.args.places.now.items c.cover.new.places.items c.args.properties.now.items c.cover.ensures.kept c.requires.at
 
 pub returns-in_err-push-clause-at : goal.returns-in_err-push-clause-at
-returns-in_err-push-clause-at c =
-    subst (AreAt 0 c.cover.new.places.items) (sym c.in_err-push.ensures.items)
+returns-in_err-push-clause-at c = subst (AreAt 0 c.cover.new.places.items) (sym c.in_err-push.ensures.items)
     (AreAt-kept 0 c.args.places.now.items c.cover.new.places.items c.args.properties.now.items c.cover.ensures.kept c.requires.at)
 
 pub returns-clause-at : goal.returns-clause-at

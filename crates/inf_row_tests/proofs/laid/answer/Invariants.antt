@@ -6,9 +6,7 @@ use Rattle.inf_row_tests.proofs.laid.answer.Given as goal
 abbrev pub ghosts-answer_under : goal.ghosts-answer_under
 ghosts-answer_under a =
     record {
-      most =
-          λ s. if nat_eq (place_of s) 2 then a.most.names
-          else if nat_eq (place_of s) 3 then a.most.code.labels
+      most = λ s. if nat_eq (place_of s) 2 then a.most.names else if nat_eq (place_of s) 3 then a.most.code.labels
           else if nat_eq (place_of s) 12 then a.most.code.code
           else if nat_eq (place_of s) 14 then a.most.code.refs
           else number_of s defaults;

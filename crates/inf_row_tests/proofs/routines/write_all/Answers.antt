@@ -8,6 +8,5 @@ loop-item-init g c = record { open_still = c.requires; behind = were_same _ }
 pub loop-item-preserved : goal.loop-item-preserved
 loop-item-preserved g c = record {
   open_still = c.write_one.ensures.open_still;
-  behind = were_then _ _ _ _ _ c.loop-item.invariant.behind
-      c.write_one.ensures.behind;
+  behind = were_then _ _ _ _ _ c.loop-item.invariant.behind c.write_one.ensures.behind;
 }

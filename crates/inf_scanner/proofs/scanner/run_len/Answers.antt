@@ -10,7 +10,6 @@ returns-in-Mark c =
     c.args.bytes.now)
 
 pub returns-in-Quote-true : goal.returns-in-Quote-true
-returns-in-Quote-true c =
-    sym (ap (λ (s : State). prefix_len (stays s) c.args.bytes.now)
+returns-in-Quote-true c = sym (ap (λ (s : State). prefix_len (stays s) c.args.bytes.now)
     (c.in-Quote-true.is ∙ ap (λ t. State.Quote t) c.in-Quote-true.field-0-test)
     ∙ no_run (stays (State.Quote true)) (λ b. refl) c.args.bytes.now)

@@ -7,8 +7,7 @@ pub returns : goal.returns
 unfolding no_attributes
 returns c =
     let links = c.args.links.now in
-    let three =
-    c.in_ok-add_entry-3.ensures
+    let three = c.in_ok-add_entry-3.ensures
     ∙ ap (λ cs. cs ++ first_entry links 2) (c.in_ok-add_entry-2.ensures ∙ ap (λ cs. cs ++ first_entry links 1) c.in_ok-add_entry.ensures) in
     subst (λ cs. OnOk c.add_entry-4.result (c.add_entry-4.new.cells ≡ cs))
     (ap (λ cs. cs ++ first_entry links 3) three ∙ four_entries links c.args.cells.now) c.add_entry-4.ensures

@@ -21,10 +21,7 @@ loop-object-preserved c =
       individual_later = c.measured-measure.ensures.individual_table.1;
     }) in
     let behind = subst (λ (x : Part). Left most objects (place + 1)
-    (record {
-      table = record { bytes = all.table.bytes + m.table.bytes; later = all.table.later + m.table.later };
-      individual_table = x;
-    }))
+    (record { table = record { bytes = all.table.bytes + m.table.bytes; later = all.table.later + m.table.later }; individual_table = x }))
     (sym c.plus-in-loop-object.ensures) next in
     subst (λ (x : Part). Left most objects (place + 1) (record { table = x; individual_table = c.plus-in-loop-object.result }))
     (sym c.plus.ensures) behind

@@ -12,8 +12,7 @@ instruct-requires g c =
     let arguments = c.args.arguments.now in
     let few : length arguments ≤ c.from.result =
     omega (arith, c.requires.few, c.from.ensures, ap (λ (r : OpcodeRow). r.most) c.row.ensures.exact) in
-    let all =
-    c.deref.ensures.0 ∙ operands_all g.B.Bounds.most nodes c.from.result arguments c.operands-operands.result.items
+    let all = c.deref.ensures.0 ∙ operands_all g.B.Bounds.most nodes c.from.result arguments c.operands-operands.result.items
     c.operands-operands.ensures few in
     subst (λ n. Takes c.args.opcode n (is_some c.args.store) (is_some c.args.branch))
     (sym (ap length all ∙ operands_len g.B.Bounds.most nodes arguments))
@@ -25,8 +24,7 @@ returns g c =
     let arguments = c.args.arguments.now in
     let few : length arguments ≤ c.from.result =
     omega (arith, c.requires.few, c.from.ensures, ap (λ (r : OpcodeRow). r.most) c.row.ensures.exact) in
-    let all =
-    c.deref.ensures.0 ∙ operands_all g.B.Bounds.most nodes c.from.result arguments c.operands-operands.result.items
+    let all = c.deref.ensures.0 ∙ operands_all g.B.Bounds.most nodes c.from.result arguments c.operands-operands.result.items
     c.operands-operands.ensures few in
     let Gives : List Simple → Out → Type 0 =
     λ given o. OnOk c.instruct.result (c.instruct.new.self ≡ instruction g.B.Bounds.most c.args.opcode given c.args.store c.args.branch o)

@@ -19,8 +19,7 @@ returns-in_ok-any-in-Some-clause-code g c =
     let members = parts (at limits nodes c.args.list) in
     let over = c.label-over.result in
     let now = c.label-over.new.self in
-    let whole : Option Simple → Label → Out → Out =
-    λ s l o. marked limits l
+    let whole : Option Simple → Label → Out → Out = λ s l o. marked limits l
     (tests_by limits s c.args.test a members c.args.sense c.args.label (if c.args.sense then c.args.label else l) o) in
     let once : c.any.new.out
     ≡ tests limits c.args.test c.in-Some.x members c.args.sense c.args.label (if c.args.sense then c.args.label else over) now =

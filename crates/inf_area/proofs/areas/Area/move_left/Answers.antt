@@ -27,9 +27,7 @@ loop-at-preserved g c =
     ∙ moved_get to from k before c.requires.before (omega arith) in
     record {
       long = ap length c.patch_byte.ensures ∙ length-set _ _ _ ∙ step.long;
-      moved =
-          c.patch_byte.ensures
-          ∙ ap (λ xs. set xs (at - (from - to)) c.byte-byte.result) step.moved
+      moved = c.patch_byte.ensures ∙ ap (λ xs. set xs (at - (from - to)) c.byte-byte.result) step.moved
           ∙ ap (λ i. set (moved to from k before) i c.byte-byte.result) target
           ∙ moved_more to from k c.byte-byte.result before c.requires.before (omega arith) read
           ∙ ap (λ i. moved to from i before) next;

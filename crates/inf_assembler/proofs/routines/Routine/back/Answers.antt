@@ -19,8 +19,7 @@ overflow_add-at g c =
     )
 
 pub returns : goal.returns
-returns g c =
-    λ earlier were.
+returns g c = λ earlier were.
     let state = c.args.self.now in
     let bytes = g.A.Area.bytes c.args.area.now in
     let new_bytes = g.A.Area.bytes c.cut.new.self in
@@ -37,8 +36,7 @@ returns g c =
     let start = ap (λ (s : State). s.start) c.self.view_is in
     let at = c.mark.view_is in
     let place : inside.start + moment.len ≡ state.start + c.args.mark.len = omega (arith, start, ap (λ (m : Moment). m.len) at) in
-    let kept =
-    c.truncate.ensures.items ∙ ap (λ k. take k inside.kept.items) (ap (λ (m : Moment). m.kept) at)
+    let kept = c.truncate.ensures.items ∙ ap (λ k. take k inside.kept.items) (ap (λ (m : Moment). m.kept) at)
     ∙ ap (λ (s : State). take c.args.mark.kept s.kept) c.self.view_is in
     let stands = back_stands state new bytes new_bytes (take state.start bytes) (contents_of state bytes) earlier c.args.mark
     (inside.start + moment.len) c.len-end.result

@@ -60,8 +60,7 @@ returns-clause-ok g c =
       start = inside.start;
       kept = new_kept;
       labels = inside.labels + more.labels;
-      fixups = inside.fixups +
-          more.fixups;
+      fixups = inside.fixups + more.fixups;
       is_final = c.row-row.result.is_final;
       limits = inside.limits;
     } in

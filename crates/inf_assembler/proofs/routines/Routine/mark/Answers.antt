@@ -16,8 +16,7 @@ returns g c =
     let is = c.self.view_is in
     let all = moment_of contents in
     let make : ℕ → ℕ → ℕ → ℕ → Bool → Moment = λ l k a h f. record { len = l; kept = k; labels = a; fixups = h; is_final = f } in
-    let len : c.len.result - inside.start ≡ all.len =
-    omega (
+    let len : c.len.result - inside.start ≡ all.len = omega (
       arith,
       c.len.ensures.value,
       ap length stands.bytes,
@@ -25,14 +24,12 @@ returns g c =
       stands.start,
       ap (λ (s : State). s.start) is,
     ) in
-    let kept : c.len-2.result ≡ all.kept =
-    omega (
+    let kept : c.len-2.result ≡ all.kept = omega (
       arith,
       c.len-2.ensures,
       inside.kept.ok.0,
       ap length (ap (λ (s : State). s.kept) is ∙ stands.kept),
-      kept_length (length front + 1)
-          0 contents.cells,
+      kept_length (length front + 1) 0 contents.cells,
     ) in
     let labels = ap (λ (s : State). s.labels) is ∙ stands.labels in
     let fixups = ap (λ (s : State). s.fixups) is ∙ stands.fixups in

@@ -20,6 +20,5 @@ returns-clause-open_now g c =
     } in
     let P : List ℕ → Contents → Type 0 = λ front items. Stands state new front items in (
       told stands,
-      subst (λ front. P front (contents_of state new)) (sym (told_front stands))
-          (subst (λ items. P old items) (sym (told stands)) stands),
+      subst (λ front. P front (contents_of state new)) (sym (told_front stands)) (subst (λ items. P old items) (sym (told stands)) stands),
     )

@@ -67,8 +67,7 @@ returns-clause-ended g c =
     (c.in_ok-ended.ensures.ended sources start now) (c.in_ok-tell.ensures.tells sources start now refl))
 
 pub returns-clause-cut : goal.returns-clause-cut
-returns-clause-cut g c =
-    subst (λ (a : Result (Option Simple) UnitFault). EndsCut g.M.Sink (expression_ended g.B.Bounds.most (chosen
+returns-clause-cut g c = subst (λ (a : Result (Option Simple) UnitFault). EndsCut g.M.Sink (expression_ended g.B.Bounds.most (chosen
     c.args.self.now.session.setup) c.args.wanted)
     c.args.messages.now c.tell.new.messages c.args.self.now.session a) (sym c.answer.ensures)
     (λ sources start now. never_lost c.in_ok-ended.ended _)

@@ -58,8 +58,7 @@ returns-then-branch-clause-called g c =
             record {
               lines = x.1.0.lines;
               takes = x.1.0.takes;
-              same = λ told.
-                  ap (λ (a : Result Closed UnitFault). (now (told ++ x.1.0.lines), a)) h
+              same = λ told. ap (λ (a : Result Closed UnitFault). (now (told ++ x.1.0.lines), a)) h
                   ∙ ap (λ (a : Answered Bool). and_then a (routine_closed code)) (x.1.0.same told);
             },
           );
@@ -97,8 +96,7 @@ returns-clause-called g c =
             record {
               lines = x.1.0.lines;
               takes = x.1.0.takes;
-              same = λ told.
-                  ap (λ (a : Result Closed UnitFault). (now (told ++ x.1.0.lines), a)) h
+              same = λ told. ap (λ (a : Result Closed UnitFault). (now (told ++ x.1.0.lines), a)) h
                   ∙ ap (λ (a : Answered Bool). and_then a (routine_closed code)) (x.1.0.same told);
             },
           );

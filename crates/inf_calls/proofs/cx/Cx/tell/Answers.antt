@@ -13,8 +13,5 @@ returns-in_err-flush-clause-cut g c =
     (λ sources start now. record {
       front = part.front;
       takes = part.takes;
-      begins = λ told. record {
-        rest = part.rest;
-        is_cut = ap (λ l. told ++ l) part.is_cut ∙ sym (append_assoc told part.front part.rest);
-      };
+      begins = λ told. record { rest = part.rest; is_cut = ap (λ l. told ++ l) part.is_cut ∙ sym (append_assoc told part.front part.rest) };
     })

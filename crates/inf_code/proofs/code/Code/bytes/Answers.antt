@@ -19,8 +19,7 @@ returns g c =
       has_begun = inside.has_begun;
       finished = before;
       routines = inside.routines;
-      opened = open_in inside.area
-          b r;
+      opened = open_in inside.area b r;
     } in
     c.len.ensures.value ∙ bytes_are inside.limits inside.finished inside.refs inside.area routine is
     ∙ ap (λ r. bytes_of_code (With false r)) (sym c.in-Some.is) ∙ ap (λ b. bytes_of_code (With b inside.routine)) (sym kept)

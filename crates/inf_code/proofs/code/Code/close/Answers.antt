@@ -3,11 +3,10 @@ use Rattle.std.specs.Prelude.{MatchResult, Bool}
 use Rattle.std.proofs.Common.{◌≡◌, ◌≤◌, ◌+◌, ◌-◌, ◌⊎◌, false, true, refl, arith, List, ◌++◌, length, Option, Some, None, sym, ◌∙◌, ap, subst}
 use Rattle.inf_assembler.specs.{Routines.State, Routines.contents_of, declared.routines.CloseFault.CloseFault}
 use Rattle.inf_area.specs.declared.cells.Cell.{Cell as CodeCell}
-use Rattle.inf_code.specs.declared.code.CodeLimits.{CodeLimits}
 use Rattle.inf_code.specs.Code.{Routines, IsCode, open_in, closed_cells, closed_count, place_behind, source_cells, with_closed}
-use Rattle.inf_code.specs.Code.{fault_closed, fault_behind, fault_end, fault_of_full}
+use Rattle.inf_code.specs.Code.{fault_behind, fault_of_full}
 use Rattle.inf_code.proofs.CodeSteps.{closed_size, code_after, counted_closed, finished_closed, size_finished}
-use Rattle.inf_code.proofs.Ends.{full_is, is_first, later_told, listed_are, told_first, told_lost}
+use Rattle.inf_code.proofs.Ends.{closed_as, full_is, is_first, later_told, listed_are, told_first, told_lost}
 use Rattle.inf_code.proofs.Full.{first_none}
 use Rattle.inf_code.proofs.code.Code.close.Goals as goal
 
@@ -20,24 +19,11 @@ returns-then-self-clause-fault g c =
     let lost : inside.is_lost ≡ true = c.if-self.true in
     let is : IsCode inside.limits inside.finished inside.refs inside.area (Some routine) =
     (subst (IsCode inside.limits inside.finished inside.refs inside.area) some c.self.invariant.0) in
-    let Closed : CodeLimits → Routines → Option CloseFault = λ l r. fault_end l r.scale kind r.finished r.opened in
-    let before = source_cells inside.finished inside.refs inside.area in
-    let With : Bool → Option State → Routines = λ b r.
-    record {
-      scale = inside.scale;
-      has_begun = inside.has_begun;
-      finished = before;
-      routines = inside.routines;
-      opened = open_in inside.area
-          b r;
-    } in
     let Tells : Option CloseFault → Type 0 =
     λ wrong. MatchResult c.close_lost.result (λ _. wrong ≡ None) (λ fault. (fault ≡ CloseFault.Memory) ⊎ (wrong ≡ Some fault)) in
     let start = is.behind.start ∙ sym (size_finished inside.limits inside.finished inside.refs inside.area (Some routine) is) in
     let told = subst (λ n. Tells (fault_behind n 0 (contents_of routine inside.area))) start c.close_lost.ensures.fault in
-    subst Tells (ap (λ r. Closed inside.limits (With true r)) (sym some)
-    ∙ ap (λ b. Closed inside.limits (With b inside.routine)) (sym lost)
-    ∙ ap (λ l. Closed l (With inside.is_lost inside.routine)) inside.is_most ∙ ap (fault_closed g.B.Bounds.most kind) c.self.view_is)
+    subst Tells (closed_as kind g.B.Bounds.most inside.area some lost inside.is_most c.self.view_is)
     (told_lost c.close_lost.result _ told)
 
 pub returns-in-Err-clause-fault : goal.returns-in-Err-clause-fault
@@ -49,23 +35,10 @@ returns-in-Err-clause-fault g c =
     let kept : inside.is_lost ≡ false = c.if-self.false in
     let is : IsCode inside.limits inside.finished inside.refs inside.area (Some routine) =
     (subst (IsCode inside.limits inside.finished inside.refs inside.area) some c.self.invariant.0) in
-    let Closed : CodeLimits → Routines → Option CloseFault = λ l r. fault_end l r.scale kind r.finished r.opened in
-    let before = source_cells inside.finished inside.refs inside.area in
-    let With : Bool → Option State → Routines = λ b r.
-    record {
-      scale = inside.scale;
-      has_begun = inside.has_begun;
-      finished = before;
-      routines = inside.routines;
-      opened = open_in inside.area
-          b r;
-    } in
     let Tells : Option CloseFault → Type 0 = λ wrong. (c.in-Err.fault ≡ CloseFault.Memory) ⊎ (wrong ≡ Some c.in-Err.fault) in
     let first = is_first inside.limits inside.finished inside.refs inside.spare inside.area false routine kind is c.self.invariant.1.1.0
     inside.refs refl in
-    subst Tells (ap (λ r. Closed inside.limits (With false r)) (sym some)
-    ∙ ap (λ b. Closed inside.limits (With b inside.routine)) (sym kept)
-    ∙ ap (λ l. Closed l (With inside.is_lost inside.routine)) inside.is_most ∙ ap (fault_closed g.B.Bounds.most kind) c.self.view_is)
+    subst Tells (closed_as kind g.B.Bounds.most inside.area some kept inside.is_most c.self.view_is)
     (told_first _ _ c.in-Err.fault (subst Tells first c.in-Err.ensures.fault))
 
 pub invariant_of-self-2 : goal.invariant_of-self-2
@@ -110,15 +83,13 @@ returns-clause-ok g c =
       has_begun = inside.has_begun;
       finished = cells;
       routines = inside.routines + 1;
-      opened = open_in whole
-          inside.is_lost r;
+      opened = open_in whole inside.is_lost r;
     } in
     let With : Bool → Option State → Routines = λ b r.
     record {
       scale = inside.scale;
       has_begun = inside.has_begun;
-      finished = before ++ closed_cells inside.scale
-          kind (place_behind before) (open_in inside.area b r);
+      finished = before ++ closed_cells inside.scale kind (place_behind before) (open_in inside.area b r);
       routines = inside.routines + closed_count (open_in inside.area b r);
       opened = None;
     } in
@@ -136,17 +107,6 @@ returns-in-Err-fill_up-clause-fault g c =
     let kept : inside.is_lost ≡ false = c.if-self.false in
     let is : IsCode inside.limits inside.finished inside.refs inside.area (Some routine) =
     (subst (IsCode inside.limits inside.finished inside.refs inside.area) some c.self.invariant.0) in
-    let Closed : CodeLimits → Routines → Option CloseFault = λ l r. fault_end l r.scale kind r.finished r.opened in
-    let before = source_cells inside.finished inside.refs inside.area in
-    let With : Bool → Option State → Routines = λ b r.
-    record {
-      scale = inside.scale;
-      has_begun = inside.has_begun;
-      finished = before;
-      routines = inside.routines;
-      opened = open_in inside.area
-          b r;
-    } in
     let written = c.close.new.area in
     let size_is = closed_size inside.scale kind inside.limits inside.finished inside.refs c.close.new.refs inside.area written routine
     c.in-Ok.closed is c.in-Ok.ensures.ok in
@@ -157,9 +117,7 @@ returns-in-Err-fill_up-clause-fault g c =
     inside.refs refl in
     let Tells : Option CloseFault → Type 0 =
     λ wrong. (c.in-Err-fill_up.fault ≡ CloseFault.Memory) ⊎ (wrong ≡ Some c.in-Err-fill_up.fault) in
-    subst Tells (ap (λ r. Closed inside.limits (With false r)) (sym some)
-    ∙ ap (λ b. Closed inside.limits (With b inside.routine)) (sym kept)
-    ∙ ap (λ l. Closed l (With inside.is_lost inside.routine)) inside.is_most ∙ ap (fault_closed g.B.Bounds.most kind) c.self.view_is)
+    subst Tells (closed_as kind g.B.Bounds.most inside.area some kept inside.is_most c.self.view_is)
     (later_told _ _ _ c.in-Err-fill_up.fault (sym first ∙ c.in-Ok.ensures.fault) same c.in-Err-fill_up.ensures.fault)
 
 pub returns-clause-fault : goal.returns-clause-fault
@@ -171,17 +129,6 @@ returns-clause-fault g c =
     let kept : inside.is_lost ≡ false = c.if-self.false in
     let is : IsCode inside.limits inside.finished inside.refs inside.area (Some routine) =
     (subst (IsCode inside.limits inside.finished inside.refs inside.area) some c.self.invariant.0) in
-    let Closed : CodeLimits → Routines → Option CloseFault = λ l r. fault_end l r.scale kind r.finished r.opened in
-    let before = source_cells inside.finished inside.refs inside.area in
-    let With : Bool → Option State → Routines = λ b r.
-    record {
-      scale = inside.scale;
-      has_begun = inside.has_begun;
-      finished = before;
-      routines = inside.routines;
-      opened = open_in inside.area
-          b r;
-    } in
     let written = c.close.new.area in
     let size_is = closed_size inside.scale kind inside.limits inside.finished inside.refs c.close.new.refs inside.area written routine
     c.in-Ok.closed is c.in-Ok.ensures.ok in
@@ -190,7 +137,5 @@ returns-clause-fault g c =
     let over = full_is inside.limits _ _ _ size_is count ∙ ap fault_of_full c.in_default-fill_up.ensures.fault in
     let first = is_first inside.limits inside.finished inside.refs inside.spare inside.area false routine kind is c.self.invariant.1.1.0
     inside.refs refl in
-    subst (λ wrong. wrong ≡ None) (ap (λ r. Closed inside.limits (With false r)) (sym some)
-    ∙ ap (λ b. Closed inside.limits (With b inside.routine)) (sym kept)
-    ∙ ap (λ l. Closed l (With inside.is_lost inside.routine)) inside.is_most ∙ ap (fault_closed g.B.Bounds.most kind) c.self.view_is)
+    subst (λ wrong. wrong ≡ None) (closed_as kind g.B.Bounds.most inside.area some kept inside.is_most c.self.view_is)
     (first_none _ _ (sym first ∙ c.in-Ok.ensures.fault) over)

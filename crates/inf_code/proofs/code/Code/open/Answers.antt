@@ -10,8 +10,7 @@ pub returns-in-Some-clause-fault : goal.returns-in-Some-clause-fault
 returns-in-Some-clause-fault g c =
     let inside = c.self.inside in
     let count = size_finished inside.limits inside.finished inside.refs inside.area inside.routine c.self.invariant.0 in
-    let same =
-    ap (full_behind_bytes inside.limits c.args.is_lost inside.has_begun) (sym count)
+    let same = ap (full_behind_bytes inside.limits c.args.is_lost inside.has_begun) (sym count)
     ∙ ap (λ l. full_behind_bytes l c.args.is_lost inside.has_begun (place_behind (source_cells inside.finished inside.refs inside.area)))
     inside.is_most
     ∙ ap (full_opened g.B.Bounds.most c.args.is_lost) c.self.view_is in
@@ -22,8 +21,7 @@ returns-in_err-routine-clause-fault g c =
     let inside = c.self.inside in
     let bound = inside.limits in
     let count = size_finished bound inside.finished inside.refs inside.area inside.routine c.self.invariant.0 in
-    let same =
-    ap (full_behind_bytes inside.limits c.args.is_lost inside.has_begun) (sym count)
+    let same = ap (full_behind_bytes inside.limits c.args.is_lost inside.has_begun) (sym count)
     ∙ ap (λ l. full_behind_bytes l c.args.is_lost inside.has_begun (place_behind (source_cells inside.finished inside.refs inside.area)))
     inside.is_most
     ∙ ap (full_opened g.B.Bounds.most c.args.is_lost) c.self.view_is in
@@ -41,8 +39,7 @@ pub returns-clause-fault : goal.returns-clause-fault
 returns-clause-fault g c =
     let inside = c.self.inside in
     let count = size_finished inside.limits inside.finished inside.refs inside.area inside.routine c.self.invariant.0 in
-    let same =
-    ap (full_behind_bytes inside.limits c.args.is_lost inside.has_begun) (sym count)
+    let same = ap (full_behind_bytes inside.limits c.args.is_lost inside.has_begun) (sym count)
     ∙ ap (λ l. full_behind_bytes l c.args.is_lost inside.has_begun (place_behind (source_cells inside.finished inside.refs inside.area)))
     inside.is_most
     ∙ ap (full_opened g.B.Bounds.most c.args.is_lost) c.self.view_is in

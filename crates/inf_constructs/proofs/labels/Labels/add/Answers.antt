@@ -17,8 +17,7 @@ returns-clause-ok c =
 pub returns-in_err-insert-clause-memory : goal.returns-in_err-insert-clause-memory
 returns-in_err-insert-clause-memory c =
     let es = c.self.inside.entries.entries in
-    let new : known_of (folded c.args.name.now) c.args.self.now ≡ None =
-    sym (ap (known_of (folded c.args.name.now)) c.self.view_is)
+    let new : known_of (folded c.args.name.now) c.args.self.now ≡ None = sym (ap (known_of (folded c.args.name.now)) c.self.view_is)
     ∙ ap (λ k. known_of k (map as_named es)) (sym c.folded.ensures)
     ∙ known_of-lookup c.folded.result.items es
     ∙ ap (option_map known) c.in_err-insert.ensures.absent in

@@ -18,8 +18,7 @@ overflow_add-self g c =
       declarations-few (map as_named inside.entries.entries),
       c.self.invariant.0,
       c.self.invariant.1,
-      length-map
-          inside.entries.entries as_named,
+      length-map inside.entries.entries as_named,
       c.self.ranges.1,
     )
 
@@ -36,8 +35,7 @@ invariant_of-self-2 g c =
     let fit : declare_fault g.B.Bounds.most c.args.name.now (record {
       names = names;
       declared = inside.declared;
-      is_debugging =
-          inside.is_debugging;
+      is_debugging = inside.is_debugging;
     }) ≡ None =
     ap (declare_fault g.B.Bounds.most c.args.name.now) c.self.view_is ∙ sym c.in_default.ensures in
     let new = c.insert.new.self.entries in
@@ -62,12 +60,7 @@ returns-clause-ok g c =
     let put_in = IsDeclared inside.declared c.args.meaning c.args.place in
     let is : map as_named c.insert.new.self.entries ≡ put (folded c.args.name.now) put_in (map as_named es) =
     ap (map as_named) c.in_ok-insert.ensures.entries ∙ put-insert _ _ es ∙ ap (λ k. put k put_in (map as_named es)) c.of.ensures in
-    ap (λ (names : List (Named _)). record {
-      names = names;
-      declared = inside.declared + 1;
-      is_debugging =
-          inside.is_debugging;
-    }) is
+    ap (λ (names : List (Named _)). record { names = names; declared = inside.declared + 1; is_debugging = inside.is_debugging }) is
     ∙ ap (with_declared c.args.name.now c.args.place c.args.meaning) c.self.view_is
 
 pub returns-in-Some-clause-memory : goal.returns-in-Some-clause-memory
@@ -81,8 +74,7 @@ returns-in_err-insert-clause-memory g c =
     let key = folded c.args.name.now in
     let gone : is_some (standing_of c.of.result.items (map as_named c.self.inside.entries.entries)) ≡ false =
     absent_key c.of.result.items c.self.inside.entries.entries c.in_err-insert.ensures.absent in
-    let absent : is_some (standing_of key t.names) ≡ false =
-    ap (λ (t : Table _). is_some (standing_of key t.names)) (sym c.self.view_is)
+    let absent : is_some (standing_of key t.names) ≡ false = ap (λ (t : Table _). is_some (standing_of key t.names)) (sym c.self.view_is)
     ∙ ap (λ k. is_some (standing_of k (map as_named c.self.inside.entries.entries))) (sym c.of.ensures) ∙ gone in
     let unknown : found_in c.args.name.now t ≡ Found.Unknown =
     unknown_where_fit (system_meaning t.is_debugging c.args.name.now) (standing_of key t.names) (is_full g.B.Bounds.most t)

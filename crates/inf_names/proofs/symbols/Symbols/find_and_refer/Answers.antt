@@ -18,12 +18,10 @@ invariant_of-self-2 g c =
     let key = folded c.args.name.now in
     let known = standing_of key names in
     let put_in = IsUsed c.args.name.now c.args.place in
-    let absent : is_some known ≡ false =
-    ap (λ (t : Table _). is_some (standing_of key t.names)) c.self.view_is
+    let absent : is_some known ≡ false = ap (λ (t : Table _). is_some (standing_of key t.names)) c.self.view_is
     ∙ not_numbered key c.args.self.now.names (c.in_default.ensures ∙ ap (λ k. number_among k c.args.self.now.names) c.of-key.ensures) in
     let new = c.insert.new.self.entries in
-    let is : map as_named new ≡ put key put_in names =
-    ap (map as_named) c.in_ok-insert.ensures.entries ∙ put-insert _ _ es
+    let is : map as_named new ≡ put key put_in names = ap (map as_named) c.in_ok-insert.ensures.entries ∙ put-insert _ _ es
     ∙ ap (λ k. put k (IsUsed c.spelled.result.items c.args.place) names) c.of-key.ensures
     ∙ ap (λ s. put key (IsUsed s c.args.place) names) c.spelled.ensures in
     let count : length new ≡ length es + cond (is_some known) 0 1 =
@@ -45,20 +43,14 @@ returns-clause-ok g c =
     let key = folded c.args.name.now in
     let system = system_meaning inside.is_debugging c.args.name.now in
     let t : Table _ = record { names = names; declared = inside.declared; is_debugging = inside.is_debugging } in
-    let absent : is_some (standing_of key names) ≡ false =
-    ap (λ (t : Table _). is_some (standing_of key t.names)) c.self.view_is
+    let absent : is_some (standing_of key names) ≡ false = ap (λ (t : Table _). is_some (standing_of key t.names)) c.self.view_is
     ∙ not_numbered key c.args.self.now.names (c.in_default.ensures ∙ ap (λ k. number_among k c.args.self.now.names) c.of-key.ensures) in
     let free : is_some system ≡ false = ap is_some (sym c.in_default-system_meaning.ensures) in
     let is : map as_named c.insert.new.self.entries ≡ put key (IsUsed c.args.name.now c.args.place) names =
     ap (map as_named) c.in_ok-insert.ensures.entries ∙ put-insert _ _ es
     ∙ ap (λ k. put k (IsUsed c.spelled.result.items c.args.place) names) c.of-key.ensures
     ∙ ap (λ s. put key (IsUsed s c.args.place) names) c.spelled.ensures in
-    ap (λ (names : List (Named _)). record {
-      names = names;
-      declared = inside.declared;
-      is_debugging =
-          inside.is_debugging;
-    }) is
+    ap (λ (names : List (Named _)). record { names = names; declared = inside.declared; is_debugging = inside.is_debugging }) is
     ∙ sym (new_used c.args.name.now c.args.place t system (standing_of key names) free absent)
     ∙ ap (with_used c.args.name.now c.args.place) c.self.view_is
 
@@ -84,8 +76,7 @@ returns-clause-number g c =
     let key = folded c.args.name.now in
     let system = system_meaning inside.is_debugging c.args.name.now in
     let t : Table _ = record { names = names; declared = inside.declared; is_debugging = inside.is_debugging } in
-    let absent : is_some (standing_of key names) ≡ false =
-    ap (λ (t : Table _). is_some (standing_of key t.names)) c.self.view_is
+    let absent : is_some (standing_of key names) ≡ false = ap (λ (t : Table _). is_some (standing_of key t.names)) c.self.view_is
     ∙ not_numbered key c.args.self.now.names (c.in_default.ensures ∙ ap (λ k. number_among k c.args.self.now.names) c.of-key.ensures) in
     let free : is_some system ≡ false = ap is_some (sym c.in_default-system_meaning.ensures) in
     ap Some (c.len-number.ensures.count ∙ ap (λ (t : Table _). length t.names) (sym c.self.view_is) ∙ sym

@@ -1,7 +1,8 @@
 use Rattle.std.proofs.Common.{◌≡◌, ◌<◌, ◌^◌, ◌++◌, [], true, take, drop, length, sym, ap, subst, ◌∙◌, arith}
 use Rattle.inf_properties.specs.{Open.IsOpen, Places.AreAt, Properties.AreNew, Properties.inherited, Sizes.are_short, Sizes.total}
 use Rattle.inf_properties.specs.{declared.sizes.Size.Size}
-use Rattle.inf_properties.proofs.{Inheriting.AreNew-inherited, Opening.opens_covered, Opening.opens_inherited, Opening.take_front, Sums.few}
+use Rattle.inf_properties.proofs.{Inheriting.AreNew-inherited, Opening.opens_covered, Opening.opens_inherited, Sums.few}
+use Rattle.inf_area.proofs.Joining.{take_front}
 use Rattle.inf_properties.proofs.open.OpenProperties.inherit.Goals as goal
 
 pub with_table-requires-clause-fixups : goal.with_table-requires-clause-fixups

@@ -40,47 +40,27 @@ returns-clause-short c =
     let short : count_after p v (values_of p.number s.above) ≤ 32 = omega (arith, c.in_ok-before.ensures.short refl, count) in
     λ _. last_short_is s.own c.in-Some.field-0-1.now s.above p v own ∙ le-leb (count_after p v (values_of p.number s.above)) 32 short
 
-pub changed-requires-clause-bytes : goal.changed-requires-clause-bytes
-changed-requires-clause-bytes c =
+pub changed-requires : goal.changed-requires
+changed-requires c =
     let s = c.args.self.now in
     let p = c.in-Some.last.now in
     let owner = ap (λ (o : Open). o.owner) c.self.view_is in
     let own = sym c.as_slice.ensures.value ∙ c.in-Some.ensures.cases.0 in
-    let was =
-    c.in_ok-before.ensures.before
+    let was = c.in_ok-before.ensures.before
     ∙ sized_as c.self.inside.owner s.owner p c.values_above-above.result.now s.above owner c.values_above-above.ensures in
     let now = c.in_ok-before.ensures.after ∙ sized_as c.self.inside.owner s.owner (record p { values = p.values ++ c.args.value ∷ [] })
     c.values_above-above.result.now s.above owner c.values_above-above.ensures in
-    (valued_fits _ s c.in-Some.field-0-1.now p c.args.value c.self.inside.size c.in_ok-before.before c.in_ok-before.after c.self.view_is own
-    c.self.invariant.sized was now).lost_bytes
-
-pub changed-requires-clause-fixups : goal.changed-requires-clause-fixups
-changed-requires-clause-fixups c =
-    let s = c.args.self.now in
-    let p = c.in-Some.last.now in
-    let owner = ap (λ (o : Open). o.owner) c.self.view_is in
-    let own = sym c.as_slice.ensures.value ∙ c.in-Some.ensures.cases.0 in
-    let was =
-    c.in_ok-before.ensures.before
-    ∙ sized_as c.self.inside.owner s.owner p c.values_above-above.result.now s.above owner c.values_above-above.ensures in
-    let now = c.in_ok-before.ensures.after ∙ sized_as c.self.inside.owner s.owner (record p { values = p.values ++ c.args.value ∷ [] })
-    c.values_above-above.result.now s.above owner c.values_above-above.ensures in
-    (valued_fits _ s c.in-Some.field-0-1.now p c.args.value c.self.inside.size c.in_ok-before.before c.in_ok-before.after c.self.view_is own
-    c.self.invariant.sized was now).lost_fixups
-
-pub changed-requires-clause-individuals : goal.changed-requires-clause-individuals
-changed-requires-clause-individuals c =
-    let s = c.args.self.now in
-    let p = c.in-Some.last.now in
-    let owner = ap (λ (o : Open). o.owner) c.self.view_is in
-    let own = sym c.as_slice.ensures.value ∙ c.in-Some.ensures.cases.0 in
-    let was =
-    c.in_ok-before.ensures.before
-    ∙ sized_as c.self.inside.owner s.owner p c.values_above-above.result.now s.above owner c.values_above-above.ensures in
-    let now = c.in_ok-before.ensures.after ∙ sized_as c.self.inside.owner s.owner (record p { values = p.values ++ c.args.value ∷ [] })
-    c.values_above-above.result.now s.above owner c.values_above-above.ensures in
-    (valued_fits _ s c.in-Some.field-0-1.now p c.args.value c.self.inside.size c.in_ok-before.before c.in_ok-before.after c.self.view_is own
-    c.self.invariant.sized was now).lost_individuals
+    let changes = valued_fits _ s c.in-Some.field-0-1.now p c.args.value c.self.inside.size c.in_ok-before.before c.in_ok-before.after
+    c.self.view_is own c.self.invariant.sized was now in
+    let little = c.in_ok-before.ensures.little in
+    let invariant = c.self.invariant in
+    record {
+      bytes = changes.lost_bytes;
+      fixups = changes.lost_fixups;
+      individuals = changes.lost_individuals;
+      small = (omega arith, omega arith, omega arith);
+      little = (omega arith, omega arith, omega arith);
+    }
 
 pub returns-clause-some : goal.returns-clause-some
 returns-clause-some c =
@@ -88,8 +68,7 @@ returns-clause-some c =
     let p = c.in-Some.last.now in
     let owner = ap (λ (o : Open). o.owner) c.self.view_is in
     let own = sym c.as_slice.ensures.value ∙ c.in-Some.ensures.cases.0 in
-    let was =
-    c.in_ok-before.ensures.before
+    let was = c.in_ok-before.ensures.before
     ∙ sized_as c.self.inside.owner s.owner p c.values_above-above.result.now s.above owner c.values_above-above.ensures in
     let now = c.in_ok-before.ensures.after ∙ sized_as c.self.inside.owner s.owner (record p { values = p.values ++ c.args.value ∷ [] })
     c.values_above-above.result.now s.above owner c.values_above-above.ensures in

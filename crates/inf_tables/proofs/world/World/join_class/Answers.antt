@@ -30,8 +30,7 @@ returns-in_err-name_class-clause-fault g c =
     c.self.invariant.2
     (subst (λ n. class_refused (join_fault number class (record { others = n; limit = i.limits.property_bytes }) i.body) f)
     c.self.invariant.0.bytes_are c.in_err-name_class.ensures.fault) in
-    let told : IsRefused (class_of_fault g.B.Bounds.most number w) (given_fault f) =
-    subst (λ o. IsRefused o (given_fault f)) (sym found)
+    let told : IsRefused (class_of_fault g.B.Bounds.most number w) (given_fault f) = subst (λ o. IsRefused o (given_fault f)) (sym found)
     (refused_as (join_fault number class (room_beside g.B.Bounds.most w) w.body) f refused) in
     told_by c.from_residual.result (λ x. class_of_fault g.B.Bounds.most number c.args.self.now ≡ None)
     (IsRefused (class_of_fault g.B.Bounds.most number c.args.self.now))

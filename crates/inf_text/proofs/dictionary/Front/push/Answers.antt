@@ -11,6 +11,5 @@ invariant_of-self c =
     let room : 9 - i ≡ suc k = omega arith in (
       omega arith,
       filled-more zs i k c.args.z c.self.told (omega arith) (h.1 ∙ ap (λ (n : ℕ). take i zs ++ replicate n 5) room),
-      AreZs-set
-          zs i c.args.z h.2 c.requires,
+      AreZs-set zs i c.args.z h.2 c.requires,
     )
