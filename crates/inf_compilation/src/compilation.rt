@@ -332,6 +332,7 @@ impl<B: Bounds> Compilation<B> {
     }
 
     /// Closes the innermost statement, which is over, unless it was closed before.
+    #[inline(never)]
     pub fn close_construct(&mut self) -> Result<(), AllocError>
         ensures { OnOk result (work self.new ≡ construct_closed B.most (work self.old)) }
     {

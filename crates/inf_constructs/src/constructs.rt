@@ -313,6 +313,7 @@ impl Constructs {
     /// Goes on behind `else`, `until` or the first `:` of the innermost statement, or where the body of a loop over objects
     /// begins.
     #[tactic(auto, unfolding(crate::specs::Constructs::between))]
+    #[inline(never)]
     pub fn go_on<B: Bounds>(&mut self, out: &mut Output<B>) -> Result<(), AllocError>
         ensures { OnOk result ((self.new, out.new) ≡ changed (between B.most) self.old out.old) }
     {

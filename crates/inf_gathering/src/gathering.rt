@@ -177,6 +177,7 @@ impl Gathering {
 
     /// Adds a leaf, where `first` is the order of its first token, and `token` that of the token that tells the leaf: another one
     /// or the same.
+    #[inline(always)]
     pub fn leaf(&mut self, first: u32, token: u32, leaf: Leaf) -> Result<(), AllocError>
         ensures { OnOk result (self.new ≡ with_leaf first token leaf self.old) }
     {

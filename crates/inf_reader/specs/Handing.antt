@@ -1,5 +1,5 @@
 -- The tokens that the machine of the grammar gets, by their results among conditionals.
-use Rattle.std.specs.Prelude.{List, [], ◌∷◌, codes, Bool, true, false, ◌&&◌, Option, Some, None}
+use Rattle.std.specs.Prelude.{List, [], ◌∷◌, codes, Bool, true, false, not, ◌&&◌, Option, Some, None}
 use Rattle.inf_settings.specs.{Bounds.Limits, Settings.number_of, declared.setting.Setting.Setting, declared.settings.Settings.Settings}
 use Rattle.inf_scanner.specs.{declared.tokens.Mark.Mark, declared.tokens.Place.Place, declared.tokens.TokenKind.TokenKind}
 use Rattle.inf_machine.specs.declared.symbols.Symbol.{Symbol}
@@ -29,6 +29,10 @@ skips _ = false
 -- Tells whether the next token comes between the pieces of a source.
 abbrev pub is_between : Reading → Bool
 is_between r = reads r.mode && is_empty r.stack
+
+-- Tells whether the next token is a further one of a piece that is read.
+abbrev pub is_inside : Reading → Bool
+is_inside r = reads r.mode && not (is_empty r.stack)
 
 -- the place in the reading at which the next token comes: between the pieces, or among tokens that are passed over
 abbrev pub site_of : Settings → Reading → Site

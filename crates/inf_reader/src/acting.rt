@@ -87,7 +87,8 @@ pub fn act_all<B: Bounds>(
     act_each(compilation, context, place, actions)
 }
 
-/// Carries out some actions, before a token at a place.
+/// Carries out some actions, before a token at a place. Only what most actions do is inlined into the loop: for more of it the addresses of
+/// all parts of a compilation would be put aside before each loop.
 fn act_each<B: Bounds>(
     compilation: &mut Compilation<B>,
     context: &Context<'_>,
@@ -196,6 +197,8 @@ fn is_wordy<B: Bounds>(compilation: &Compilation<B>, context: &Context<'_>) -> b
 }
 
 /// Makes `note`, with which a value ends of a unit that has too many.
+#[cold]
+#[inline(never)]
 fn end_value<B: Bounds>(
     compilation: &mut Compilation<B>,
     context: &Context<'_>,
@@ -227,6 +230,7 @@ fn pass_operands<B: Bounds>(compilation: &mut Compilation<B>) -> Result<(), Allo
 }
 
 /// Makes `note`, which is kept, of the unit at hand.
+#[inline(always)]
 fn keep_note<B: Bounds>(
     compilation: &mut Compilation<B>,
     context: &Context<'_>,

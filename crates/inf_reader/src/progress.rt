@@ -1,6 +1,6 @@
 //! The reading of a source, and its compilation so far, token by token.
 ghost use Rattle.inf_compilation.specs.Context.{handed};
-ghost use Rattle.std.specs.Prelude.{◌≡◌, [], IfOk, OnOk};
+ghost use Rattle.std.specs.Prelude.{◌≡◌, [], IfOk, OnOk, true};
 ghost use Rattle.inf_settings.specs.Bounds.{AreSet};
 ghost use Rattle.inf_report.specs.Meant.{located};
 ghost use Rattle.inf_unit.specs.Spelled.{spelled};
@@ -38,7 +38,7 @@ pub struct Progress<B: Bounds> {
 }
 
 impl<B: Bounds> Progress<B> {
-    ghost use Rattle.inf_reader.specs.Handing.{handed_as, is_between, judged_taken, site_of};
+    ghost use Rattle.inf_reader.specs.Handing.{handed_as, is_between, is_inside, judged_taken, site_of};
     ghost use Rattle.inf_reader.specs.Reading.{bad, begun_stand, has_ended_at, judged, piece_begun, read_at, step};
     ghost use Rattle.inf_reader.specs.Standing.{reading, standing};
     ghost use Rattle.inf_compilation.specs.{Actions.piece_begun as work_begun, Works.work};
@@ -87,6 +87,29 @@ impl<B: Bounds> Progress<B> {
         ensures { result ≡ is_between (standing self.now).reading }
     {
         matches!(self.reader.mode, Recovery::Reads) && self.reader.machine.is_done()
+    }
+
+    /// Returns whether the next token is a further one of a piece that is read.
+    #[inline(always)]
+    pub fn is_inside(&self) -> bool
+        ensures { result ≡ is_inside (standing self.now).reading }
+    {
+        matches!(self.reader.mode, Recovery::Reads) && !self.reader.machine.is_done()
+    }
+
+    /// Takes the next token of a source, as `take` does, where it is a further one of a piece that is read.
+    #[inline(always)]
+    #[tactic(auto, using(crate::proofs::Inside::stepped_inside))]
+    pub fn take_inside(
+        &mut self,
+        context: &Context<'_>,
+        token: &SourceToken<'_>,
+    ) -> Result<(), AllocError>
+        requires { is_inside (standing self.old).reading ≡ true }
+        ensures { let before = standing self.old in
+            OnOk result (standing self.new ≡ step B.most (handed context.now) (spelled token.now) before.reading before.work) }
+    {
+        self.judge(context, token)
     }
 
     /// Returns the place in the reading at which the next token comes.

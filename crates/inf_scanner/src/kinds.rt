@@ -143,6 +143,7 @@ fn quote_kind(alloc: Global, set: CharSet, bytes: &[u8]) -> Result<TokenKind, Al
 }
 
 /// Returns the kind of a token, by its ending and its bytes. Only a quote, and a text that is not plain, take memory.
+#[inline(always)]
 pub fn kind_of(
     alloc: Global,
     set: CharSet,

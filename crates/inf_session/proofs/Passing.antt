@@ -1,13 +1,16 @@
 -- A token of which a first look shows that it is kept, with nothing else to come of it, is a step of the reader alone. One of which
 -- a first look shows that it only passes, in a side that is left out, is no step of the reader.
-use Rattle.std.proofs.Common.{◌≡◌, ◌||◌, ℕ, Bool, true, false, Option, None, cond, nat_lt, refl, sym, ap, ◌∙◌}
+use Rattle.std.proofs.Common.{◌≡◌, ◌||◌, ℕ, List, Bool, true, false, Option, None, cond, nat_lt, refl, sym, ap, ◌∙◌}
 use Rattle.inf_settings.specs.Bounds.{Limits}
+use Rattle.inf_scanner.specs.{declared.tokens.Place.Place, declared.tokens.TokenKind.TokenKind}
 use Rattle.inf_unit.specs.Tokens.{SourceToken}
 use Rattle.inf_compilation.specs.Context.{Context}
 use Rattle.inf_conditionals.specs.{Open.Conditions, Open.silent, Said.Said, declared.filtered.Site.Site}
 use Rattle.inf_conditionals.specs.Judging.{Behind, judged, kept, none_handed, passed}
-use Rattle.inf_reader.specs.{Handing.judged_taken, Handing.said_told, Handing.site_of, Reading.ReaderState, Reading.step}
-use Rattle.inf_session.specs.Taking.{Taken, quoted_behind, quoted_bytes, token_taken}
+use Rattle.inf_reader.specs.{Handing.is_between, Handing.is_inside, Handing.judged_taken, Handing.said_told, Handing.site_of}
+use Rattle.inf_reader.specs.{Reading.ReaderState, Reading.step}
+use Rattle.inf_reader.proofs.Inside.{not_between}
+use Rattle.inf_session.specs.Taking.{Taken, quoted_behind, quoted_bytes, token_at, token_taken}
 
 -- the state behind a token whose result among conditionals is known
 abbrev behind : Limits → Context → Site → SourceToken → ReaderState → ℕ → Behind → Taken
@@ -45,6 +48,20 @@ passes_on limits context t c s quoted is none =
     let site : Site = site_of context.settings s.reading in
     ap (behind limits context site t s quoted) is ∙ ap (told limits context site t c s quoted) none
     ∙ ap (stepped limits context site t c s quoted) (sym none)
+
+pub passes_inside : (limits : Limits) (context : Context) (kind : TokenKind) (bytes : List ℕ) (place : Place) (c : Conditions) (s : ReaderState)
+    (quoted : ℕ) → is_inside s.reading ≡ true →
+    (let t = token_at false kind bytes place s.work in judged (site_of context.settings s.reading) s.work.output t c ≡ kept c) →
+    c.said ≡ None
+    → token_taken limits context (token_at (is_between s.reading) kind bytes place s.work) c s quoted
+    ≡ record {
+      conditions = c;
+      stand = step limits context (token_at false kind bytes place s.work) s.reading s.work;
+      quoted = quoted_behind (site_of context.settings s.reading) (kept c).judged (token_at false kind bytes place s.work) quoted;
+    }
+passes_inside limits context kind bytes place c s quoted inside is none =
+    ap (λ (b : Bool). token_taken limits context (token_at b kind bytes place s.work) c s quoted) (not_between s.reading inside)
+    ∙ passes_on limits context (token_at false kind bytes place s.work) c s quoted is none
 
 -- the state where nothing is handed on, where this is the message about a condition
 abbrev left : Limits → Context → Conditions → ReaderState → ℕ → Option Said → Taken

@@ -2,7 +2,7 @@
 ghost use Rattle.std.specs.Prelude.{◌≡◌, IfOk, is_some, true};
 ghost use Rattle.inf_compilation.specs.{Context.handed, Works.work as work_of};
 ghost use Rattle.inf_conditionals.specs.declared.filtered.Filtered.{Filtered as Judged};
-ghost use Rattle.inf_reader.specs.{Handing.is_between, Handing.site_of, Standing.standing};
+ghost use Rattle.inf_reader.specs.{Handing.is_between, Standing.standing};
 ghost use Rattle.inf_session.specs.Taking.{quoted_behind, quoted_bytes, token_at, token_taken};
 ghost use Rattle.inf_unit.specs.{Atoms.is_short, Spelled.spelled};
 
@@ -20,7 +20,8 @@ use std::alloc::AllocError;
 /// Takes the token `token`, which was read with the bytes `bytes`. The conditionals say whether it is handed on and what there is
 /// to tell of a condition, and the reader takes the tokens that are handed on. Returns the number of bytes of the longest quoted
 /// token then, before which it was `quoted`.
-#[tactic(auto, using(crate::proofs::Passing::passes_on, crate::proofs::Passing::passes_over))]
+#[inline(always)]
+#[tactic(auto, using(crate::proofs::Passing::passes_inside, crate::proofs::Passing::passes_over))]
 pub(crate) fn take<B: Bounds>(
     context: &Context<'_>,
     token: Token,
@@ -38,38 +39,44 @@ pub(crate) fn take<B: Bounds>(
     if conditionals.skips(token.kind, bytes) {
         return Ok(quoted);
     }
-    let site = progress.site(context.settings);
-    let spelled = token_at(site.is_between, token, bytes, &progress.work);
-    if !conditionals.passes(site, &spelled) {
-        return take_other(context, site, &spelled, quoted, conditionals, progress);
+    let spelled = SourceToken::new(token.kind, bytes, token.place, false);
+    if !progress.is_inside() {
+        return take_other(context, &spelled, quoted, conditionals, progress);
     }
-    progress.take(context, &spelled)?;
+    let site = progress.site(context.settings);
+    if !conditionals.passes(site, &spelled) {
+        return take_other(context, &spelled, quoted, conditionals, progress);
+    }
+    progress.take_inside(context, &spelled)?;
     Ok(quoted_behind(site, true, &spelled, quoted))
 }
 
-/// Takes `token`, as `take` does. It stands apart, since of most tokens it is known that they are kept and nothing else comes of them.
+/// Takes `token`, as `take` does, which is no name of a class unless the place of the reading makes it one. It stands apart, since of most
+/// tokens it is known that they are kept and nothing else comes of them.
 #[inline(never)]
 fn take_other<B: Bounds>(
     context: &Context<'_>,
-    site: Site,
     token: &SourceToken<'_>,
     quoted: usize,
     conditionals: &mut Conditionals,
     progress: &mut Progress<B>,
 ) -> Result<usize, AllocError>
-    requires { site ≡ site_of context.now.settings.now (standing progress.old).reading }
     ensures { let before = standing progress.old in
+        let t = spelled token.now in
+        let named = token_at (is_between before.reading) t.kind t.bytes t.place before.work in
         IfOk result (λ longest. record { conditions = conditionals.new; stand = standing progress.new; quoted = longest }
-        ≡ token_taken B.most (handed context.now) (spelled token.now) conditionals.old before quoted) }
+        ≡ token_taken B.most (handed context.now) named conditionals.old before quoted) }
 {
-    let judged = conditionals.take(site, &progress.work.output, token)?;
+    let site = progress.site(context.settings);
+    let named = token_at(site.is_between, token, &progress.work);
+    let judged = conditionals.take(site, &progress.work.output, &named)?;
     conditionals.tell(
         context.files,
         &mut progress.work.report,
         &mut progress.work.output,
     )?;
-    progress.take_judged(context, token, judged)?;
-    Ok(quoted_behind(site, judged.token.is_some(), token, quoted))
+    progress.take_judged(context, &named, judged)?;
+    Ok(quoted_behind(site, judged.token.is_some(), &named, quoted))
 }
 
 /// Returns the number of bytes of the longest quoted token behind `token`, which is handed on if `is_handed`, and before which it was
@@ -102,16 +109,14 @@ fn quoted_bytes(token: &SourceToken<'_>) -> usize
     }
 }
 
-/// Returns the token with the bytes `bytes` that comes to a place of the reading: at the front of a piece a name may be that of a class.
+/// Returns `token` as it comes to a place of the reading: at the front of a piece a name may be that of a class.
 fn token_at<'t, B: Bounds>(
     is_between: bool,
-    token: Token,
-    bytes: &'t [u8],
+    token: &SourceToken<'t>,
     work: &Compilation<B>,
 ) -> SourceToken<'t>
-    requires { is_short token.kind bytes.now ≡ true }
-    ensures { spelled result ≡ token_at is_between token.kind bytes.now token.place (work_of work.now) }
+    ensures { let t = spelled token.now in spelled result ≡ token_at is_between t.kind t.bytes t.place (work_of work.now) }
 {
-    let is_class = is_between && work.is_class(token.kind, bytes);
-    SourceToken::new(token.kind, bytes, token.place, is_class)
+    let is_class = is_between && work.is_class(token.kind, token.bytes);
+    SourceToken::new(token.kind, token.bytes, token.place, is_class)
 }

@@ -21,6 +21,7 @@ pub struct SourceToken<'a> {
 
 /// Returns the atom of a token of `kind` with `bytes`, which is the name of a class if `is_class`. A token that is faulty by itself
 /// is a bad one, which fits nowhere.
+#[inline]
 fn atom_at(kind: TokenKind, bytes: &[u8], is_class: bool) -> u8
     ensures { result ≡ atom_of_kind is_class kind bytes.now }
 {

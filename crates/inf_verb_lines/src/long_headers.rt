@@ -28,6 +28,8 @@ fn bring_word(unit: &mut Unit) -> Result<bool, AllocError>
 
 /// Takes the last token, a word of the header of a verb that has more tokens than there may be words. Behind a word that came twice
 /// it is not kept.
+#[cold]
+#[inline(never)]
 pub fn sift_word<B: Bounds>(compilation: &mut Compilation<B>) -> Result<(), AllocError>
     ensures { OnOk result (work compilation.new ≡ word_sifted (work compilation.old)) }
 {
