@@ -3,3 +3,11 @@ pub mod Lasts
 pub mod Misfits
 pub mod Waiting
 pub mod Skipping
+pub mod Doomed
+pub mod Alive
+pub mod Standing
+pub mod Gatherings
+pub mod Following
+pub mod PackedTokens
+pub mod HeldParts
+pub mod Backwards

@@ -35,7 +35,7 @@ took_is t stack left actions u met new a b c d =
     ∙ ap (λ (x : Unit). condition_at (read grammar known (atom_of t) stack).left x)
     (d ∙ ap (λ (x : Unit). taken t x) (c ∙ ap (λ (l : List Action). all_acted l u) b))
 
-taken_more : (ts : List SourceToken) (t : SourceToken) (k : Condition) → all_taken (ts ++ t ∷ []) k ≡ condition_took t (all_taken ts k)
+pub taken_more : (ts : List SourceToken) (t : SourceToken) (k : Condition) → all_taken (ts ++ t ∷ []) k ≡ condition_took t (all_taken ts k)
 taken_more [] t k = refl
 taken_more (x ∷ ts) t k = taken_more ts t (condition_took x k)
 

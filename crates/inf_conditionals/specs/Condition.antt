@@ -7,8 +7,9 @@ use Rattle.inf_grammar.specs.Language.{grammar, known}
 use Rattle.inf_expressions.specs.{Findings.no_constant, Rooted.Rooted, Trees.Leaf, Trees.Tree, Units.judged, Units.trees_of}
 use Rattle.inf_expressions.specs.{declared.findings.Finding.Finding, declared.operators.Operand.Operand, declared.units.Wanted.Wanted}
 use Rattle.inf_output.specs.Output.{Out}
-use Rattle.inf_unit.specs.{Tokens.SourceToken, Tokens.atom_of, Units.Unit, Units.acted, Units.no_unit, Units.taken}
-use Rattle.inf_conditionals.specs.{Operands.operands_of, declared.condition.Verdict.Verdict}
+use Rattle.inf_unit.specs.{Tokens.SourceToken, Tokens.atom_of, Units.Unit, Units.acted, Units.long_at, Units.no_unit, Units.outer_tokens}
+use Rattle.inf_unit.specs.{Units.taken}
+use Rattle.inf_conditionals.specs.{Operands.operands_of, declared.condition.Extent.Extent, declared.condition.Verdict.Verdict}
 
 -- A condition: the rest of its directive that is still to be read, and the unit that was read.
 pub record Condition : Type 0 where
@@ -41,6 +42,10 @@ is_none_left (symbol ∷ symbols) = false
 
 abbrev pub is_whole : Condition → Bool
 is_whole k = is_none_left k.stack
+
+-- the extent of a condition's expression so far, where `longest` tokens are allowed
+abbrev pub extent_of : ℕ → Unit → Extent
+extent_of longest u = record { tokens = outer_tokens u; long = long_at longest u; depth = u.depth }
 
 -- Definitions of the value of a condition
 

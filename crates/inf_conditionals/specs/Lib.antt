@@ -1,6 +1,10 @@
 pub mod Operands
 pub mod Condition
 pub mod ReadAgain
+pub mod Held
+pub mod Packed
+pub mod Values
+pub mod Truths
 pub mod Waiting
 pub mod Said
 pub mod Meant

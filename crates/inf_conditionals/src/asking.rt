@@ -1,9 +1,11 @@
 //! The conditions of conditional directives, token by token.
-ghost use Rattle.std.specs.Prelude.{◌≡◌, IfOk, OnOk, option_map};
-ghost use Rattle.inf_conditionals.specs.Judging.{hash};
-ghost use Rattle.inf_unit.specs.Spelled.{spelled};
+ghost use Rattle.std.specs.Prelude.{◌≡◌, IfOk, OnOk, false, option_map, true};
+ghost use Rattle.inf_conditionals.specs.{Condition.condition_took, Judging.hash};
+ghost use Rattle.inf_grammar.specs.Language.{grammar, known};
+ghost use Rattle.inf_machine.specs.Machine.{fits};
+ghost use Rattle.inf_unit.specs.{Spelled.spelled, Tokens.atom_of};
 
-use crate::condition::Condition;
+use crate::condition::{Condition, Steps};
 use crate::conditionals::Conditionals;
 use crate::filtered::{Filtered, NONE, Site, TAKEN};
 use crate::pending::{Awaits, Effect, Pending};
@@ -22,8 +24,25 @@ fn hash(place: Place) -> SourceToken<'static>
     SourceToken::new(TokenKind::Mark(Mark::Hash), b"#", place, false)
 }
 
+/// Takes the next token of `condition`, if it fits, and returns whether it does. The condition is passed over if `is_quiet`.
+fn take(
+    is_quiet: bool,
+    condition: &mut Condition,
+    steps: &mut Steps,
+    token: &SourceToken<'_>,
+) -> Result<bool, AllocError>
+    ensures fits { IfOk result (λ is_taken. is_taken ≡ fits grammar known (atom_of (spelled token.now)) condition.old.stack) }
+    ensures taken { IfOk result (λ is_taken. is_taken ≡ true → condition.new ≡ condition_took (spelled token.now) condition.old) }
+{
+    if is_quiet {
+        condition.take_quietly(steps, token)
+    } else {
+        condition.take(steps, token)
+    }
+}
+
 impl Conditionals {
-    ghost use Rattle.inf_conditionals.specs.{Condition.verdict_of, Meant.said_of, Said.told_by};
+    ghost use Rattle.inf_conditionals.specs.{Condition.verdict_of, Meant.said_of, Said.told_by, Said.too_much};
     ghost use Rattle.inf_conditionals.specs.Judging.{asked, asked_first, asked_on, asking, decided, saying, sign_asked, tokens_counted};
 
     /// Begins a conditional directive with a condition, by its word.
@@ -62,11 +81,11 @@ impl Conditionals {
         let Some(mut condition) = self.conditions.pop(&mut self.spare, &mut self.steps)? else {
             return Ok(self.give_up());
         };
-        if !condition.take(&mut self.steps, token)? {
+        if !take(site.is_quiet, &mut condition, &mut self.steps, token)? {
             return Ok(self.give_up());
         }
         if condition.is_whole() {
-            return self.decide(wanted, directive, site.is_quiet, out, condition);
+            return self.decide_by(site.is_quiet, wanted, directive, out, condition);
         }
         self.ask_on(wanted, directive, site, token, condition)
     }
@@ -86,7 +105,7 @@ impl Conditionals {
             return Ok(self.give_up());
         };
         let sign = hash(place);
-        if !condition.take(&mut self.steps, &sign)? {
+        if !take(site.is_quiet, &mut condition, &mut self.steps, &sign)? {
             return Ok(self.give_up());
         }
         self.ask_on(wanted, directive, site, &sign, condition)
@@ -104,18 +123,50 @@ impl Conditionals {
         ensures { IfOk result (λ j. record { now = self.new; judged = j } ≡
             asked_on wanted site (spelled token.now) condition directive self.old) }
     {
-        self.count_tokens(site.is_quiet, &condition);
-        self.say(too_much(site.is_quiet, site.longest, token, &condition));
+        let mut condition = condition;
+        self.measure(site, token, &mut condition)?;
         self.ask(directive.place, directive.is_inner, wanted, condition)?;
         Ok(TAKEN)
     }
 
-    /// Counts the tokens of a condition so far, unless it is passed over.
-    fn count_tokens(&mut self, is_quiet: bool, condition: &Condition)
-        ensures { self.new ≡ tokens_counted is_quiet condition.now self.old }
+    /// Counts the tokens of a condition so far, of which `token` is the last, and notes the message that there are too many, unless the
+    /// condition is passed over.
+    fn measure(
+        &mut self,
+        site: Site,
+        token: &SourceToken<'_>,
+        condition: &mut Condition,
+    ) -> Result<(), AllocError>
+        ensures measured { OnOk result (self.new ≡ saying site.is_quiet (too_much site.longest (spelled token.now) condition.old)
+            (tokens_counted site.is_quiet condition.old self.old)) }
+        ensures same { OnOk result (condition.new ≡ condition.old) }
     {
-        if !is_quiet {
-            self.most_tokens = self.most_tokens.max(condition.unit().outer_tokens());
+        if site.is_quiet {
+            self.said = None;
+            return Ok(());
+        }
+        let extent = condition.extent(&mut self.steps, site.longest)?;
+        self.most_tokens = self.most_tokens.max(extent.tokens);
+        self.say(too_much(token, extent));
+        Ok(())
+    }
+
+    /// Ends a conditional directive with a condition, which is whole, and is passed over if `is_quiet`.
+    fn decide_by<B: Bounds>(
+        &mut self,
+        is_quiet: bool,
+        wanted: bool,
+        directive: Pending,
+        out: &Output<B>,
+        condition: Condition,
+    ) -> Result<Filtered, AllocError>
+        ensures { IfOk result (λ j. record { now = self.new; judged = j } ≡
+            decided (verdict_of self.old.declared out.now condition) wanted is_quiet condition directive self.old) }
+    {
+        if is_quiet {
+            self.decide_quietly(wanted, directive, out, condition)
+        } else {
+            self.decide(wanted, directive, out, condition)
         }
     }
 
@@ -124,39 +175,54 @@ impl Conditionals {
         &mut self,
         wanted: bool,
         directive: Pending,
-        is_quiet: bool,
         out: &Output<B>,
         condition: Condition,
     ) -> Result<Filtered, AllocError>
         ensures { IfOk result (λ j. record { now = self.new; judged = j } ≡
-            decided (verdict_of self.old.declared out.now condition) wanted is_quiet condition directive self.old) }
+            decided (verdict_of self.old.declared out.now condition) wanted false condition directive self.old) }
     {
-        let verdict = condition.judge(self.declared, out)?;
-        self.found(is_quiet, directive.place, condition, verdict.finding);
+        let mut condition = condition;
+        let verdict = condition.judge(&mut self.steps, self.declared, out)?;
+        self.found(directive.place, condition, verdict.finding)?;
         let effect = Effect::Opens(verdict.is_true == wanted);
-        self.carry_out(effect, is_quiet, directive)
+        self.carry_out(effect, false, directive)
     }
 
-    /// Notes the message about `condition`, which has this `finding` or is right, unless its directive is passed over,
-    /// as `is_quiet` says. The directive begins at `directive`.
+    /// Ends a conditional directive with a condition, which is whole and passed over.
+    fn decide_quietly<B: Bounds>(
+        &mut self,
+        wanted: bool,
+        directive: Pending,
+        out: &Output<B>,
+        condition: Condition,
+    ) -> Result<Filtered, AllocError>
+        ensures { IfOk result (λ j. record { now = self.new; judged = j } ≡
+            decided (verdict_of self.old.declared out.now condition) wanted true condition directive self.old) }
+    {
+        let mut condition = condition;
+        let is_true = condition.is_true(&mut self.steps, self.declared, out)?;
+        self.said = None;
+        self.spare = Some(condition);
+        self.carry_out(Effect::Opens(is_true == wanted), true, directive)
+    }
+
+    /// Notes the message about `condition`, which has this `finding` or is right. Its directive begins at `directive`.
     fn found(
         &mut self,
-        is_quiet: bool,
         directive: Place,
         condition: Condition,
         finding: Option<Finding>,
-    )
-        ensures { self.new ≡ saying is_quiet (told_by directive condition finding) self.old }
+    ) -> Result<(), AllocError>
+        ensures { OnOk result (self.new ≡ saying false (told_by directive condition finding) self.old) }
     {
-        if is_quiet {
-            self.say(None);
-            self.spare = Some(condition);
-            return;
-        }
+        let mut condition = condition;
+        let unit = condition.take_unit(&mut self.steps)?;
+        self.spare = Some(condition);
         match finding {
-            Some(finding) => self.say(Some(Said::Wrong(directive, condition, finding))),
-            None => self.say(Some(Said::Right(condition))),
+            Some(finding) => self.say(Some(Said::Wrong(directive, unit, finding))),
+            None => self.say(Some(Said::Right(unit))),
         }
+        Ok(())
     }
 
     /// Notes `said` as the message about a condition, if there is one.

@@ -1,18 +1,23 @@
 //! The condition of a conditional directive.
-ghost use Rattle.std.specs.Prelude.{◌≡◌, IfOk, IfSome, OnOk, drop, map, true};
-ghost use Rattle.inf_conditionals.specs.Condition.{all_acted, condition_begun, condition_took, finding_by, is_true_by, is_whole, number_of};
-ghost use Rattle.inf_conditionals.specs.Condition.{tree_in, verdict_of};
-ghost use Rattle.inf_conditionals.specs.ReadAgain.{IsReadBy, all_fit, all_taken};
+ghost use Rattle.std.specs.Prelude.{◌≡◌, IfOk, IfSome, List, OnOk, Some, drop, map, true};
+ghost use Rattle.inf_conditionals.specs.Condition.{all_acted, condition_begun, condition_took, extent_of, finding_by, is_true_by, is_whole};
+ghost use Rattle.inf_conditionals.specs.Condition.{number_of, tree_in, verdict_of};
+ghost use Rattle.inf_conditionals.specs.{Held.IsHeld, Held.condition_by, Held.has_tokens, Held.unfolded, Truths.truth_of};
+ghost use Rattle.inf_conditionals.specs.ReadAgain.{IsReadBy, all_fit, all_taken, condition_at};
 ghost use Rattle.inf_expressions.specs.Forests.{trees_in};
 ghost use Rattle.inf_grammar.specs.Language.{grammar, known};
-ghost use Rattle.inf_machine.specs.Machine.{fits};
+ghost use Rattle.inf_machine.specs.{Machine.fits, Machine.taken, declared.symbols.Symbol.Symbol};
+ghost use Rattle.inf_syntax.specs.declared.actions.Action.{Action};
 ghost use Rattle.inf_unit.specs.{AtHand.unit as unit_of, Spelled.spelled, Tokens.atom_of};
 
 use crate::operands::operands_of;
+use crate::packed::PackedTokens;
+use crate::truth::truth_of;
 use inf_area::Value;
-use inf_expressions::{Finding, Forest, Wanted, build, constant, judge};
+use inf_expressions::{Finding, Forest, Wanted, constant, judge_whole};
 use inf_grammar::{Action, Openings, PIECE, Rest};
 use inf_output::Output;
+use inf_scanner::Place;
 use inf_settings::bounds::Bounds;
 use inf_unit::tokens::SourceToken;
 use inf_unit::unit::Unit;
@@ -21,7 +26,7 @@ use std::alloc::{AllocError, Global};
 use std::marker::Model;
 use std::mem;
 
-/// The most tokens of a condition that is kept by its tokens alone while one inside of it is read.
+/// The most tokens of a condition that is read again, where it waits for one inside of it.
 const FEW: usize = 8;
 
 /// All that conditions share, of which one at a time is read.
@@ -39,6 +44,40 @@ impl Steps {
             actions: Vec::new(alloc),
         }
     }
+
+    /// Reads `token`, of which `rest` is still to be read, if it fits, and returns whether it does. The actions on the way to it are then
+    /// those at hand.
+    pub(crate) fn read(
+        &mut self,
+        rest: &mut Rest,
+        token: &SourceToken<'_>,
+    ) -> Result<bool, AllocError>
+        ensures fits { IfOk result (λ fits_now. fits_now ≡ fits grammar known (atom_of (spelled token.now)) rest.old) }
+        ensures left { IfOk result (λ fits_now. fits_now ≡ true →
+            rest.new ≡ (taken grammar known (atom_of (spelled token.now)) rest.old).left) }
+        ensures actions { IfOk result (λ fits_now. fits_now ≡ true →
+            self.new.actions.items ≡ (taken grammar known (atom_of (spelled token.now)) rest.old).actions) }
+    {
+        self.actions.clear();
+        rest.read(&mut self.openings, token.atom(), &mut self.actions)
+    }
+
+    /// Returns the actions at hand.
+    pub(crate) fn actions(&self) -> &[Action]
+        ensures { result.now ≡ (self.now).actions.items }
+    {
+        self.actions.as_slice()
+    }
+}
+
+/// The parts of a condition that are up to date.
+#[derive(Clone, Copy, Debug, PartialEq, Eq)]
+pub enum Held {
+    Both,
+    /// The tokens alone, as in a condition that is passed over: its unit would take much more memory.
+    Tokens,
+    /// The unit alone, since there was no memory for a token.
+    Unit,
 }
 
 /// A conditional directive with a condition that is being read: by the grammar, as any other directive.
@@ -47,22 +86,20 @@ pub struct Condition {
     /// The rest of the directive that is still to be read.
     rest: Rest,
     unit: Unit,
-    /// The first tokens that were taken.
-    tokens: UnitTokens,
-    /// Tells whether those are all that were taken.
-    is_short: bool,
+    /// All tokens that were taken.
+    tokens: PackedTokens,
+    held: Held,
 }
 
 impl Model for Condition {
-    ghost use Rattle.std.specs.Prelude.{◌≡◌, true};
     ghost use Rattle.inf_unit.specs.AtHand.{unit as unit_of};
-    ghost use Rattle.inf_conditionals.specs.{Condition.Condition, ReadAgain.IsReadBy, ReadAgain.condition_at};
+    ghost use Rattle.inf_conditionals.specs.{Condition.Condition, Held.IsHeld, Held.condition_by};
 
     ghost Value = { Condition };
 
-    ghost view = { λ k. condition_at k.rest (unit_of k.unit) };
+    ghost view = { λ k. condition_by k.held k.rest (unit_of k.unit) k.tokens };
 
-    ghost invariant = { λ k. k.is_short ≡ true → IsReadBy k.tokens (condition_at k.rest (unit_of k.unit)) };
+    ghost invariant = { λ k. IsHeld k.held k.rest (unit_of k.unit) k.tokens };
 }
 
 /// One call at each exit of a function that owns a condition, in place of a call for each part of each part.
@@ -70,6 +107,15 @@ impl Drop for Condition {
     fn drop(self) {
         let _parts = self.into_parts();
     }
+}
+
+/// The extent of a condition's expression so far: the number of its tokens, the place of the first that is too many, and the number of
+/// brackets that are open.
+#[derive(Clone, Copy, Debug, PartialEq, Eq)]
+pub struct Extent {
+    pub tokens: usize,
+    pub long: Option<Place>,
+    pub depth: u32,
 }
 
 /// The result of a condition.
@@ -88,19 +134,19 @@ impl Condition {
             alloc,
             rest: Rest::new(alloc),
             unit: Unit::new(alloc),
-            tokens: UnitTokens::new(alloc),
-            is_short: false,
+            tokens: PackedTokens::new(alloc),
+            held: Held::Unit,
         }
     }
 
     /// Takes this condition apart.
-    fn into_parts(self) -> (Rest, Unit, UnitTokens) {
+    fn into_parts(self) -> (Rest, Unit, PackedTokens) {
         let Condition {
             alloc: _,
             rest,
             unit,
             tokens,
-            is_short: _,
+            held: _,
         } = self;
         (rest, unit, tokens)
     }
@@ -109,12 +155,12 @@ impl Condition {
     pub(crate) fn begin(&mut self) -> Result<(), AllocError>
         ensures { OnOk result (self.new ≡ condition_begun) }
     {
-        self.is_short = false;
+        self.held = Held::Unit;
         self.tokens.clear();
         self.unit.clear();
         self.rest.clear();
         self.rest.start(PIECE)?;
-        self.is_short = true;
+        self.held = Held::Both;
         Ok(())
     }
 
@@ -127,21 +173,40 @@ impl Condition {
         ensures fits { IfOk result (λ is_taken. is_taken ≡ fits grammar known (atom_of (spelled token.now)) self.old.stack) }
         ensures taken { IfOk result (λ is_taken. is_taken ≡ true → self.new ≡ condition_took (spelled token.now) self.old) }
     {
-        let was_short = mem::replace(&mut self.is_short, false);
-        steps.actions.clear();
-        if !self
-            .rest
-            .read(&mut steps.openings, token.atom(), &mut steps.actions)?
-        {
+        let held = mem::replace(&mut self.held, Held::Unit);
+        unfold(held, &self.tokens, steps, &mut self.rest, &mut self.unit)?;
+        if !gather(steps, &mut self.rest, &mut self.unit, token)? {
             return Ok(false);
         }
-        act_all(steps.actions.as_slice(), &mut self.unit)?;
-        self.unit.take(token)?;
-        if !was_short || self.tokens.len() >= FEW {
-            return Ok(true);
+        match held {
+            Held::Unit => {}
+            Held::Both | Held::Tokens => {
+                self.tokens.add(token)?;
+                self.held = Held::Both;
+            }
+        }
+        Ok(true)
+    }
+
+    /// Takes the next token, as `take` does, where the directive is passed over.
+    pub(crate) fn take_quietly(
+        &mut self,
+        steps: &mut Steps,
+        token: &SourceToken<'_>,
+    ) -> Result<bool, AllocError>
+        ensures fits { IfOk result (λ is_taken. is_taken ≡ fits grammar known (atom_of (spelled token.now)) self.old.stack) }
+        ensures taken { IfOk result (λ is_taken. is_taken ≡ true → self.new ≡ condition_took (spelled token.now) self.old) }
+    {
+        match self.held {
+            Held::Unit => return self.take(steps, token),
+            Held::Both | Held::Tokens => {}
+        }
+        self.held = Held::Unit;
+        if !steps.read(&mut self.rest, token)? {
+            return Ok(false);
         }
         self.tokens.add(token)?;
-        self.is_short = true;
+        self.held = Held::Tokens;
         Ok(true)
     }
 
@@ -166,21 +231,43 @@ impl Condition {
         Ok(())
     }
 
-    /// Returns the unit of the tokens that were taken.
-    pub(crate) fn unit(&self) -> &Unit
-        ensures { unit_of result.now ≡ self.now.unit }
+    /// Returns the extent of the expression so far, where `longest` tokens are allowed.
+    pub(crate) fn extent(&mut self, steps: &mut Steps, longest: usize) -> Result<Extent, AllocError>
+        ensures extent { IfOk result (λ extent. extent ≡ extent_of longest self.old.unit) }
+        ensures same { OnOk result (self.new ≡ self.old) }
     {
-        &self.unit
+        let held = mem::replace(&mut self.held, Held::Unit);
+        unfold(held, &self.tokens, steps, &mut self.rest, &mut self.unit)?;
+        self.held = unfolded(held);
+        Ok(Extent {
+            tokens: self.unit.outer_tokens(),
+            long: self.unit.long_at(longest),
+            depth: self.unit.depth,
+        })
+    }
+
+    /// Takes out the unit of the tokens that were taken.
+    pub(crate) fn take_unit(&mut self, steps: &mut Steps) -> Result<Unit, AllocError>
+        ensures { IfOk result (λ unit. unit_of unit ≡ self.old.unit) }
+    {
+        let held = mem::replace(&mut self.held, Held::Unit);
+        unfold(held, &self.tokens, steps, &mut self.rest, &mut self.unit)?;
+        Ok(mem::replace(&mut self.unit, Unit::new(self.alloc)))
+    }
+
+    /// Gives this condition the memory of `unit`, before another one begins.
+    pub(crate) fn give_unit(&mut self, unit: Unit) {
+        self.held = Held::Unit;
+        self.unit = unit;
     }
 
     /// Returns all tokens that were taken, where they are few.
-    pub(crate) fn few_tokens(&self) -> Option<&UnitTokens>
+    pub(crate) fn few_tokens(&self) -> Option<&PackedTokens>
         ensures { IfSome result (λ tokens. IsReadBy tokens.now self.now) }
     {
-        if self.is_short {
-            Some(&self.tokens)
-        } else {
-            None
+        match self.held {
+            Held::Both | Held::Tokens if self.tokens.len() <= FEW => Some(&self.tokens),
+            _ => None,
         }
     }
 
@@ -193,40 +280,148 @@ impl Condition {
 
     /// Returns the verdict on this condition, where `declared` names were declared by the directives before.
     pub(crate) fn judge<B: Bounds>(
-        &self,
+        &mut self,
+        steps: &mut Steps,
         declared: usize,
         out: &Output<B>,
     ) -> Result<Verdict, AllocError>
-        ensures { IfOk result (λ v. v ≡ verdict_of declared out.now self.now) }
+        ensures verdict { IfOk result (λ v. v ≡ verdict_of declared out.now self.old) }
+        ensures same { OnOk result (self.new ≡ self.old) }
     {
-        let symbols = self.unit.gathering.symbols();
-        let operands = operands_of(
-            self.alloc,
-            declared,
-            out,
-            &self.unit.tokens,
-            self.unit.gathering.leaves(),
-        )?;
-        let found = judge(
-            self.alloc,
-            Wanted::Constant,
-            0,
-            symbols,
-            operands.as_slice(),
-        )?;
-        let forest = build(
-            self.alloc,
-            Wanted::Constant,
-            0,
-            symbols,
-            operands.as_slice(),
-        )?;
-        let number = number_of(&forest);
-        Ok(Verdict {
-            is_true: is_true(number, found),
-            finding: finding_of(number, found),
-        })
+        let held = mem::replace(&mut self.held, Held::Unit);
+        unfold(held, &self.tokens, steps, &mut self.rest, &mut self.unit)?;
+        self.held = unfolded(held);
+        judge_unit(self.alloc, declared, out, &self.unit)
     }
+
+    /// Returns whether this condition is true, where `declared` names were declared by the directives before.
+    pub(crate) fn is_true<B: Bounds>(
+        &mut self,
+        steps: &mut Steps,
+        declared: usize,
+        out: &Output<B>,
+    ) -> Result<bool, AllocError>
+        ensures { let verdict = verdict_of declared out.now self.old in IfOk result (λ is_true. is_true ≡ verdict.is_true) }
+    {
+        let truth = truth_held(self.alloc, self.held, &self.tokens, steps, declared, out)?;
+        match truth {
+            Some(is_true) => Ok(is_true),
+            None => Ok(self.judge(steps, declared, out)?.is_true),
+        }
+    }
+}
+
+/// Returns whether the condition is true that has `tokens`, where these are up to date, as `held` says, and tell it. By the directives before,
+/// `declared` names were declared.
+fn truth_held<B: Bounds>(
+    alloc: Global,
+    held: Held,
+    tokens: &PackedTokens,
+    steps: &mut Steps,
+    declared: usize,
+    out: &Output<B>,
+) -> Result<Option<bool>, AllocError>
+    ensures truth { IfOk result (λ truth. IfSome truth (λ is_true. truth_of declared out.now tokens.now ≡ Some is_true)) }
+    ensures tokens { IfOk result (λ truth. IfSome truth (λ is_true. has_tokens held ≡ true)) }
+{
+    match held {
+        Held::Unit => Ok(None),
+        Held::Both | Held::Tokens => truth_of(alloc, declared, out, tokens, steps),
+    }
+}
+
+/// Returns the parts that are up to date once the unit is.
+fn unfolded(held: Held) -> Held
+    ensures { result ≡ unfolded held }
+{
+    match held {
+        Held::Both | Held::Tokens => Held::Both,
+        Held::Unit => Held::Unit,
+    }
+}
+
+/// Brings the unit of a condition up to date, of which the parts that `held` says are: it is read again by its tokens, if need be.
+fn unfold(
+    held: Held,
+    tokens: &PackedTokens,
+    steps: &mut Steps,
+    rest: &mut Rest,
+    unit: &mut Unit,
+) -> Result<(), AllocError>
+    requires { IsHeld held rest.old (unit_of unit.old) tokens.now }
+    ensures { OnOk result (condition_at rest.new (unit_of unit.new) ≡ condition_by held rest.old (unit_of unit.old) tokens.now) }
+{
+    match held {
+        Held::Both | Held::Unit => Ok(()),
+        Held::Tokens => read_all(tokens, steps, rest, unit),
+    }
+}
+
+/// Reads a condition again by its tokens, which fit one behind the other.
+fn read_all(
+    tokens: &PackedTokens,
+    steps: &mut Steps,
+    rest: &mut Rest,
+    unit: &mut Unit,
+) -> Result<(), AllocError>
+    requires { all_fit tokens.now condition_begun ≡ true }
+    ensures { OnOk result (condition_at rest.new (unit_of unit.new) ≡ all_taken tokens.now condition_begun) }
+{
+    unit.clear();
+    rest.clear();
+    rest.start(PIECE)?;
+    let mut left = tokens.left();
+    while let Some(token) = left.next() {
+        if !gather(steps, rest, unit, &token)? {
+            unreachable!();
+        }
+    }
+    Ok(())
+}
+
+/// Takes `token` for a condition of which `rest` is to be read behind `unit`, if it fits, and returns whether it does.
+fn gather(
+    steps: &mut Steps,
+    rest: &mut Rest,
+    unit: &mut Unit,
+    token: &SourceToken<'_>,
+) -> Result<bool, AllocError>
+    ensures fits { IfOk result (λ is_taken. is_taken ≡ fits grammar known (atom_of (spelled token.now)) rest.old) }
+    ensures taken { IfOk result (λ is_taken. is_taken ≡ true → condition_at rest.new (unit_of unit.new)
+        ≡ condition_took (spelled token.now) (condition_at rest.old (unit_of unit.old))) }
+{
+    if !steps.read(rest, token)? {
+        return Ok(false);
+    }
+    act_all(steps.actions(), unit)?;
+    unit.take(token)?;
+    Ok(true)
+}
+
+/// Returns the verdict on a condition with `unit`, where `declared` names were declared by the directives before.
+fn judge_unit<B: Bounds>(
+    alloc: Global,
+    declared: usize,
+    out: &Output<B>,
+    unit: &Unit,
+) -> Result<Verdict, AllocError>
+    ensures { (stack : List (Symbol Action)) → IfOk result (λ v. v ≡ verdict_of declared out.now (condition_at stack (unit_of unit.now))) }
+{
+    let symbols = unit.gathering.symbols();
+    let operands = operands_of(alloc, declared, out, &unit.tokens, unit.gathering.leaves())?;
+    let (found, forest) = judge_whole(
+        alloc,
+        Wanted::Constant,
+        0,
+        symbols,
+        operands.as_slice(),
+        None,
+    )?;
+    let number = number_of(&forest);
+    Ok(Verdict {
+        is_true: is_true(number, found),
+        finding: finding_of(number, found),
+    })
 }
 
 /// Lets `actions` gather in `unit`.
@@ -240,7 +435,7 @@ fn act_all(actions: &[Action], unit: &mut Unit) -> Result<(), AllocError>
 }
 
 /// Returns the known number that the first tree of `forest` is, if it is one.
-fn number_of(forest: &Forest) -> Option<u16>
+pub(crate) fn number_of(forest: &Forest) -> Option<u16>
     ensures { result ≡ number_of (map tree_in (trees_in forest.now)) }
 {
     let root = forest.roots.first()?;

@@ -20,6 +20,7 @@ use inf_sources::open_file::Conditional;
 use inf_unit::kinds::{is_end, is_mark};
 use inf_unit::messages::Diagnostics;
 use inf_unit::tokens::SourceToken;
+use inf_unit::unit::Unit;
 use std::alloc::{AllocError, Global};
 use std::marker::Model;
 use std::mem;
@@ -45,7 +46,7 @@ pub struct Conditionals {
     pub most_tokens: usize,
     /// The message about a condition.
     pub(crate) said: Option<Said>,
-    /// A condition that was read, whose memory the next one has.
+    /// A condition that was read, whose memory the next one has. That of its unit may be in the message.
     pub(crate) spare: Option<Condition>,
     /// All that conditions share.
     pub(crate) steps: Steps,
@@ -96,6 +97,13 @@ fn may_act(kind: TokenKind, bytes: &[u8]) -> bool
         | TokenKind::Word(_)
         | TokenKind::Text
         | TokenKind::Bad(_) => false,
+    }
+}
+
+/// Gives `spare` the memory of `unit`, if there are both.
+fn give_back(spare: &mut Option<Condition>, unit: Option<Unit>) {
+    if let (Some(spare), Some(unit)) = (spare, unit) {
+        spare.give_unit(unit);
     }
 }
 
@@ -276,7 +284,7 @@ impl Conditionals {
         ensures { self.new ≡ silent self.old }
     {
         if let Some(said) = self.said.take() {
-            self.spare = said.into_condition();
+            give_back(&mut self.spare, said.into_unit());
         }
     }
 

@@ -14,6 +14,8 @@ pub mod filtered;
 pub mod open;
 mod open_conditions;
 mod operands;
+mod packed;
 pub mod pending;
 pub mod said;
+mod truth;
 pub mod words;

@@ -4,6 +4,7 @@ ghost use Rattle.inf_conditionals.specs.{Condition.condition_begun, ReadAgain.al
 ghost use Rattle.inf_conditionals.specs.Waiting.{CanWait, IsAdded, waiting_in};
 
 use crate::condition::{Condition, Steps};
+use crate::packed::PackedTokens;
 use inf_unit::unit_tokens::UnitTokens;
 use std::alloc::{AllocError, Global};
 use std::marker::Model;
@@ -151,15 +152,13 @@ fn add_few(condition: &Condition, tokens: &mut UnitTokens) -> Result<Option<usiz
 }
 
 /// Adds the tokens `others` behind `tokens`, which stay as they were where memory runs out.
-fn add_all(tokens: &mut UnitTokens, others: &UnitTokens) -> Result<(), AllocError>
+fn add_all(tokens: &mut UnitTokens, others: &PackedTokens) -> Result<(), AllocError>
     ensures ok { OnOk result (tokens.new ≡ tokens.old ++ others.now) }
     ensures err { OnErr result (tokens.new ≡ tokens.old) }
 {
     let before = tokens.len();
-    for at in 0..others.len() {
-        let Some(token) = others.get(at) else {
-            unreachable!();
-        };
+    let mut left = others.left();
+    while let Some(token) = left.next() {
         if tokens.add(&token).is_err() {
             tokens.truncate(before);
             return Err(AllocError);

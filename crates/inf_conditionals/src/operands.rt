@@ -16,10 +16,14 @@ use inf_unit::unit_tokens::{NameToken, UnitTokens};
 use std::alloc::{AllocError, Global};
 
 /// A name that is known later. No code asks for its number.
-const LATER: Operand = Operand::Later(Target::Name(0));
+pub(crate) const LATER: Operand = Operand::Later(Target::Name(0));
 
 /// Returns the operand in a condition of `name`, where `declared` names were declared by the directives before.
-fn name_operand<B: Bounds>(declared: usize, names: &Symbols<Place, B>, name: &[u8]) -> Operand
+pub(crate) fn name_operand<B: Bounds>(
+    declared: usize,
+    names: &Symbols<Place, B>,
+    name: &[u8],
+) -> Operand
     requires { length name.now ≤ 35 }
     ensures { result ≡ name_operand declared names.now name.now }
 {
@@ -31,7 +35,7 @@ fn name_operand<B: Bounds>(declared: usize, names: &Symbols<Place, B>, name: &[u
 }
 
 /// Returns the bytes of a name, if there is one.
-fn bytes_of<'t>(name: Option<NameToken<'t>>) -> &'t [u8]
+pub(crate) fn bytes_of<'t>(name: Option<NameToken<'t>>) -> &'t [u8]
     requires { IfSome name (λ n. length n.bytes.now ≤ 32) }
     ensures value { result.now ≡ bytes_of (option_map named name.entry) }
     ensures few { length result.now ≤ 32 }

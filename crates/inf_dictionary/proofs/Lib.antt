@@ -3,3 +3,4 @@ pub mod Ranks
 pub mod Wholes
 pub mod Halves
 pub mod Known
+pub mod Faults

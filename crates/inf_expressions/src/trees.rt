@@ -177,6 +177,7 @@ impl Gathered {
     }
 
     /// Joins the latest two trees by an operator, in a unit that begins at the order `unit`.
+    #[inline(always)]
     pub(crate) fn two(&mut self, unit: u32, op: Binary) -> Result<(), AllocError>
         ensures { OnOk result (self.new ≡ with_two_of unit op self.old) }
     {

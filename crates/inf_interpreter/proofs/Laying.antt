@@ -152,10 +152,10 @@ then_ {w} {c} {d} {P} {Q} f g o =
       laid = laid_then x.items y.items o (c o) (d (c o)) x.laid y.laid;
       names = names_then o (c o) (d (c o)) x.names y.names;
       runs = λ at rest k s. subst (λ from. Then P Q at from rest) (sym (append_assoc x.items y.items rest)) (
-            y.items ++ rest,
-            x.runs at (y.items ++ rest) (supplies_before w (c o) (d (c o)) y.names y.laid.fits k) (stands_front x.items y.items at rest s),
-            y.runs at rest k (stands_back x.items y.items at rest s),
-          );
+        y.items ++ rest,
+        x.runs at (y.items ++ rest) (supplies_before w (c o) (d (c o)) y.names y.laid.fits k) (stands_front x.items y.items at rest s),
+        y.runs at rest k (stands_back x.items y.items at rest s),
+      );
     }
 
 pub so : {w : World} {c : Code} {P Q : Claim} → ((at : Label → Place) (from to : Place) → P at from to → Q at from to) → Always w c P →

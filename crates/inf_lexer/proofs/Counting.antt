@@ -35,21 +35,21 @@ pub counts_more : {old new : Counts} {before after : ℕ} (n : ℕ) → new ≡ 
     → CountsOn old new before after
 counts_more {old = old} {before = before} {after = after} n is more few = subst (λ (c : Counts). CountsOn old c before after) (sym is)
     (record {
-  too_long = too_long_more n old.each (min old.too_long last_count) old.too_long (omega arith) (omega arith);
-  stays = λ outer base counted.
-      let count : ℕ = min (counted.count + n) last_count in
-      let long : (counts_given n old).too_long ≡ too_long_given n (counted.count ∷ outer) old.too_long =
-      ap (λ (each : List ℕ). too_long_given n each old.too_long) counted.is in
-      record {
-        count = count;
-        is = ap (each_given n) counted.is;
-        within = omega (arith, counted.within, more, few);
-        least = too_long_more n old.each (min base last_count) old.too_long counted.least (omega arith);
-        too_long = λ over. subst (λ (m : ℕ). min (base + 1) last_count ≤ m) (sym long)
-            (found_long base old.too_long counted.count count (is_too_long counted.count) (is_too_long count) refl refl counted.least
-            counted.too_long over);
-      };
-})
+      too_long = too_long_more n old.each (min old.too_long last_count) old.too_long (omega arith) (omega arith);
+      stays = λ outer base counted.
+          let count : ℕ = min (counted.count + n) last_count in
+          let long : (counts_given n old).too_long ≡ too_long_given n (counted.count ∷ outer) old.too_long =
+          ap (λ (each : List ℕ). too_long_given n each old.too_long) counted.is in
+          record {
+            count = count;
+            is = ap (each_given n) counted.is;
+            within = omega (arith, counted.within, more, few);
+            least = too_long_more n old.each (min base last_count) old.too_long counted.least (omega arith);
+            too_long = λ over. subst (λ (m : ℕ). min (base + 1) last_count ≤ m) (sym long)
+                (found_long base old.too_long counted.count count (is_too_long counted.count) (is_too_long count) refl refl counted.least
+                counted.too_long over);
+          };
+    })
 
 -- a reading behind another
 pub counts_then : {a b c : Counts} {x y z : ℕ} → CountsOn a b x y → CountsOn b c y z → CountsOn a c x z

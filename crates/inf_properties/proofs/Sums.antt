@@ -159,10 +159,10 @@ abbrev sized : ℕ → ℕ → ℕ → Size
 sized bytes fixups individuals = record { bytes = bytes; fixups = fixups; individuals = individuals }
 
 pub changed_is : (old lost gained new : Size) → Changes old lost gained new → record {
-      bytes = old.bytes - lost.bytes + gained.bytes;
-      fixups = old.fixups - lost.fixups + gained.fixups;
-      individuals = old.individuals - lost.individuals + gained.individuals;
-    } ≡ new
+  bytes = old.bytes - lost.bytes + gained.bytes;
+  fixups = old.fixups - lost.fixups + gained.fixups;
+  individuals = old.individuals - lost.individuals + gained.individuals;
+} ≡ new
 changed_is old lost gained new h =
     let b : old.bytes - lost.bytes + gained.bytes ≡ new.bytes = omega (arith, h.bytes, h.lost_bytes) in
     let f : old.fixups - lost.fixups + gained.fixups ≡ new.fixups = omega (arith, h.fixups, h.lost_fixups) in

@@ -142,31 +142,31 @@ unreadable_then f a b c x y z w (inr (inr many)) = inr (inr many)
 pub reads_file : {S : Type 0} {f : Files S} {failed : Bool} {old new : S} {nest : Nest} {before after : Reader} {outer : List OpenFile}
     → ReadsOn f failed old new before.window after.window → after.file ≡ before.file
     → ReadsFile f failed old new (record { nest = nest; lexer = before; outer = outer })
-        (record { nest = nest; lexer = after; outer = outer })
+    (record { nest = nest; lexer = after; outer = outer })
 reads_file {f = f} {failed = failed} {old = old} {new = new} {nest = nest} {before = before} {after = after} {outer = outer} on file =
     record {
-  went = record {
-    sources = on.sources;
-    honesty = on.honesty;
-    faults = on.faults;
-    depth = omega (arith, on.depth);
-    counted = λ base was. counted_read base (f.counts old) (f.counts new) before.window.given after.window.given
-        (map (λ (r : Reader). r.window.given) (lexers_of (reverse outer))) on.counts was;
-    opened = subst⁻¹ (λ (names : List (List ℕ)). OpensOn nest.names nest.names (f.opened old) names) on.opened
-        (opens_none nest.names (f.opened old));
-    nested = λ honest start n.
-        nested_on start (f.openings old) (f.openings new) (record { nest = nest; lexer = before; outer = outer })
-        (record { nest = nest; lexer = after; outer = outer }) n (on.gave honest).places (on.gave honest).count refl;
-    stays_given = λ honest start n given. read_given after on file honest n given;
-  };
-  on = on;
-  opened = λ honest start n.
-      opened_as_before (f.sources old) start (f.openings old) (f.openings new) on.bytes (on.gave honest);
-  fits = unless_as failed (λ few honest start n given fit. read_fit after on file honest n given few fit) on.few;
-  nest = refl;
-  outer = refl;
-  file = file;
-}
+      went = record {
+        sources = on.sources;
+        honesty = on.honesty;
+        faults = on.faults;
+        depth = omega (arith, on.depth);
+        counted = λ base was. counted_read base (f.counts old) (f.counts new) before.window.given after.window.given
+            (map (λ (r : Reader). r.window.given) (lexers_of (reverse outer))) on.counts was;
+        opened = subst⁻¹ (λ (names : List (List ℕ)). OpensOn nest.names nest.names (f.opened old) names) on.opened
+            (opens_none nest.names (f.opened old));
+        nested = λ honest start n.
+            nested_on start (f.openings old) (f.openings new) (record { nest = nest; lexer = before; outer = outer })
+            (record { nest = nest; lexer = after; outer = outer }) n (on.gave honest).places (on.gave honest).count refl;
+        stays_given = λ honest start n given. read_given after on file honest n given;
+      };
+      on = on;
+      opened = λ honest start n.
+          opened_as_before (f.sources old) start (f.openings old) (f.openings new) on.bytes (on.gave honest);
+      fits = unless_as failed (λ few honest start n given fit. read_fit after on file honest n given few fit) on.few;
+      nest = refl;
+      outer = refl;
+      file = file;
+    }
 
 -- no call, and one behind another
 pub reads_file_none : {S : Type 0} {f : Files S} {s : S} {files : Open} → files.lexer.window.given ≤ 16777216

@@ -120,7 +120,7 @@ module _ {S : Type 0} {f : Files S} {failed : Bool} {a b : S} {nest : Nest} {q :
       let front : IsFrontOf (f.sources a) (innermost (f.openings b)) =
       next_front (f.sources a) (innermost (f.openings a)) (innermost (f.openings b)) on.bytes
       (given.each (innermost_place (f.openings a)) (omega (arith, place, was.0.behind))
-          (omega (arith, place, at.less))) gave.next gave.given
+      (omega (arith, place, at.less))) gave.next gave.given
       gave.name in
       record {
         each = read_each (IsFrontOf (f.sources a)) (f.sources a) (length start.all) (f.openings a) (f.openings b) on.bytes gave front

@@ -43,7 +43,7 @@ pub fit_failed : {S : Type 0} {f : Files S} {old new : S} {names : List (List �
     → Attempts f old new names before.nest after (Err fault) → StaysFit f old new before
 fit_failed {f = f} {old = old} {new = new} {names = names} {before = before} {fault = fault} t = λ honest start n given fit.
     failed_fit (f.sources old) before.nest.names names (length start.all) (f.openings old) (f.openings new)
-        (how fault (t.leaves honest)) fit
+    (how fault (t.leaves honest)) fit
 
 -- the cause where the device refused
 pub device_cause : {S : Type 0} {f : Files S} {old new : S} {before after : Open} (directories : List (List ℕ)) (text : List ℕ)
@@ -108,4 +108,4 @@ pub main_cause : {m n : ℕ} {s : Sources} {h : Bool} {names opened : List (List
 main_cause is_fresh (inl rose) = rose
 main_cause is_fresh (inr many) =
     let most : 65535 ≤ 0 = subst (λ (n : Nest). 65535 ≤ number_of many.name n.names) is_fresh many.is_too_many in absurd
-        (omega (arith, most))
+    (omega (arith, most))

@@ -78,6 +78,13 @@ impl<'a> SourceToken<'a> {
         self.atom
     }
 
+    /// Returns whether this token is read as the name of a class.
+    pub fn is_class(&self) -> bool
+        ensures { let token = spelled self.now in result ≡ token.is_class }
+    {
+        self.is_class
+    }
+
     /// Returns the word of the grammar that this token is, if it is one.
     pub fn keyword(&self) -> Option<Keyword>
         ensures { result ≡ keyword (spelled self.now) }

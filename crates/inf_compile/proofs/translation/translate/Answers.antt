@@ -125,7 +125,7 @@ returns-clause-opened g c = λ honest.
     on_err_weaker c.translate_opened-open_files.result.1
     (λ k. inr (opened_some s o name old now (files.openings c.close.new.files) f (begun_at (nesting s old mid main) options) k.0
     (subst (λ (n : Nesting). begun_at (nesting s old mid main) options [] ≡ begun_at n options [])
-        (c.in-Ok.ensures.entered honest).nesting_is refl)
+    (c.in-Ok.ensures.entered honest).nesting_is refl)
     closed given
     (subst (λ (n : Nesting). OpensAll (run (limits_of (chosen_at n options).settings) s (chosen_at n options) k.0)
     (begun_at (nesting s old mid main) options) (opened_since old now)) (c.in-Ok.ensures.entered honest).nesting_is
@@ -191,7 +191,7 @@ returns-in-Err-Absent-clause-begins g c = λ honest.
     ∙ ap (λ (n : List ℕ). (missing n).messages) c.as_bytes.ensures.value in
     on_err_leads c.written.result (TakesFront (seen ending).messages old new) (Begins s o serial name old new)
     (begins_missing s o serial name old new (seen ending).messages ((c.in-Err-Absent.ensures.refused honest).1 c.in-Err-Absent.field-0-is)
-        is)
+    is)
     c.written.ensures.err
 
 -- where the main source could not be opened

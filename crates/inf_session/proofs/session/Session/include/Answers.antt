@@ -12,7 +12,7 @@ use Rattle.inf_lexer.specs.Names.{Nest}
 use Rattle.inf_conditionals.specs.{Ends.with_among, Open.Conditions}
 use Rattle.inf_report.specs.{Meant.meant, Messages.Location}
 use Rattle.inf_unit.specs.Messages.{location, with_fatal}
-use Rattle.inf_session.proofs.{Opening.at_ok, Opening.in_vain, Opening.not_entered, Opening.on_ok_at, Telling.halt_tells_none, Telling.unless_read_told}
+use Rattle.inf_session.proofs.{Opening.in_vain, Opening.not_entered, Telling.halt_tells_none, Telling.unless_read_told}
 use Rattle.inf_session.proofs.session.Session.include.Goals.{in-Ok-NotThere, in-Ok-TooDeep}
 use Rattle.inf_session.proofs.session.Session.include.Goals as goal
 
@@ -115,11 +115,12 @@ returns-clause-included g c = λ honest start nested told.
     let call = c.include.ensures in
     let taken = c.take_among-conditionals in
     let none = λ (why : Included) (is : c.include.result ≡ Ok why) (never : why ≡ Included.Entered → ⊥)
+    (kept : (c.include.new.self ≡ before.open_files) × ((c.include.new.conditionals ≡ taken.result)
+    × (c.include.new.is_system ≡ before.progress.work.is_system)))
     (says : with_fatal here (meant c.match-include-2.message) report ≡ (none_included unit text why was).work.report).
-    let kept = at_ok _ _ c.include.result _ why is call.kept never in
+    let done = rw is at (call.included honest start nested) in
     not_entered s o unit text _ _ _ _ c.include.new.is_system start old new before c.include.new.self why c.give_among.new.self
-    c.fatal.new.self told (at_ok _ _ c.include.result _ why is (call.answer honest start nested)) never
-    (on_ok_at _ _ c.include.result _ why is (call.nesting honest start nested))
+    c.fatal.new.self told done.0 never done.1
     (c.give_among.ensures
     ∙ ap (λ (v : Vec Conditional Global). with_among (reverse v.items) taken.new.self) kept.1.0
     ∙ ap (λ (k : Conditions). with_among (reverse taken.result.items) k) taken.ensures.none
@@ -132,10 +133,10 @@ returns-clause-included g c = λ honest start nested told.
     elim c.match-include-2.branch [
       | in-Ok-NotThere w ↦ (
           let is : c.include.result ≡ Ok Included.NotThere = search rules in
-          none Included.NotThere is (λ e. cc) (ap (λ m. with_fatal here (meant m) report) w.message-is)
+          none Included.NotThere is (λ e. cc) (rw is at call.moves) (ap (λ m. with_fatal here (meant m) report) w.message-is)
           )
       | in-Ok-TooDeep w ↦ (
           let is : c.include.result ≡ Ok Included.TooDeep = search rules in
-          none Included.TooDeep is (λ e. cc) (ap (λ m. with_fatal here (meant m) report) w.message-is)
+          none Included.TooDeep is (λ e. cc) (rw is at call.moves) (ap (λ m. with_fatal here (meant m) report) w.message-is)
           )
     ]

@@ -124,7 +124,7 @@ returns-clause-stepped g c = λ honest start nested told.
       settings = c.args.self.now.setup.settings.now;
     } in
     let named : c.names.result.now.names ≡ before.nesting.names = ap (λ (n : Nest). n.names)
-        (c.names.ensures ∙ c.in-Ok.ensures.reads.nest) in
+    (c.names.ensures ∙ c.in-Ok.ensures.reads.nest) in
     let set_is : c.characters.result ≡ before.nesting.cursor.set =
     c.characters.ensures.innermost ∙ ap (λ (n : Nesting). n.cursor.set) reads.goes_on in
     let same : context ≡ context_of o before =

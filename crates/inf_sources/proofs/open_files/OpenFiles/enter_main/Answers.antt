@@ -32,7 +32,7 @@ pub returns-in_err-lexer-clause-refused : goal.returns-in_err-lexer-clause-refus
 returns-in_err-lexer-clause-refused g c =
     rw (fault_is c.from_residual.result c.from_residual.ensures)
     (λ honest. main_refused (g.F.Files.sources c.args.files.now) c.args.name.now c.new-names.ensures
-        (c.in_err-lexer.ensures.attempt.leaves honest))
+    (c.in_err-lexer.ensures.attempt.leaves honest))
 
 pub returns-in_err-lexer-clause-tries : goal.returns-in_err-lexer-clause-tries
 returns-in_err-lexer-clause-tries g c =

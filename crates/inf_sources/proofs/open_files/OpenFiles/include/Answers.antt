@@ -67,10 +67,10 @@ returns-in-Ok-clause-went g c =
     (went_in t.tries t.opened waiting refl (outer_is g c)
     (ap (λ (r : Reader). r.window.given) (c.replace.ensures.after ∙ e.is_entered.1))
     (λ honest start n. entered_nested_of start old new before e.name c.enter.new.self c.replace.new.dest c.push_reserved.new.self.items
-        waiting
+    waiting
     refl n (e.is_opened honest) (outer_is g c))
     (λ honest start n all. entered_given s start old new before after e.name inside.names.set inside.names.limit n
-        (e.is_opened honest) e.is_entered.0
+    (e.is_opened honest) e.is_entered.0
     (c.replace.ensures.after ∙ e.is_entered.1) waiting refl (outer_is g c) all))
 
 pub returns-in-Ok-clause-fits : goal.returns-in-Ok-clause-fits
@@ -146,7 +146,7 @@ returns-in-Err-BadName-clause-included g c =
     rw (← c.self.view_is) (λ honest start n.
     includes_none c.self.inside.lexer.set c.self.inside.names.limit s (reverse c.args.conditionals.now.items) c.args.is_system.now
     (unfit_is s directories c.args.text.now n c.self.invariant.0 d.0) (nesting_same s start (t.leaves honest)
-        (open_same {lexer = c.self.inside.lexer} t.same c.in_ok-reserve.ensures.items)))
+    (open_same {lexer = c.self.inside.lexer} t.same c.in_ok-reserve.ensures.items)))
 
 pub returns-in-Err-Absent-clause-included : goal.returns-in-Err-Absent-clause-included
 returns-in-Err-Absent-clause-included g c =
@@ -157,7 +157,7 @@ returns-in-Err-Absent-clause-included g c =
     rw (← c.self.view_is) (λ honest start n.
     includes_none c.self.inside.lexer.set c.self.inside.names.limit s (reverse c.args.conditionals.now.items) c.args.is_system.now
     (first_is s directories c.args.text.now n c.self.invariant.0 d.0 d.1 (t.leaves honest).0)
-        (nesting_same s start (t.leaves honest).1 (open_same {lexer = c.self.inside.lexer} t.same c.in_ok-reserve.ensures.items)))
+    (nesting_same s start (t.leaves honest).1 (open_same {lexer = c.self.inside.lexer} t.same c.in_ok-reserve.ensures.items)))
 
 pub returns-in-Err-TooDeep-clause-included : goal.returns-in-Err-TooDeep-clause-included
 returns-in-Err-TooDeep-clause-included g c =
@@ -168,7 +168,7 @@ returns-in-Err-TooDeep-clause-included g c =
     rw (← c.self.view_is) (λ honest start n.
     includes_none c.self.inside.lexer.set c.self.inside.names.limit s (reverse c.args.conditionals.now.items) c.args.is_system.now
     (deep_is s directories c.args.text.now n c.self.invariant.0 d.0 d.1.0) (nesting_same s start (t.leaves honest)
-        (open_same {lexer = c.self.inside.lexer} t.same c.in_ok-reserve.ensures.items)))
+    (open_same {lexer = c.self.inside.lexer} t.same c.in_ok-reserve.ensures.items)))
 
 pub returns-in-Err-Device-clause-included : goal.returns-in-Err-Device-clause-included
 returns-in-Err-Device-clause-included g c =
@@ -176,7 +176,7 @@ returns-in-Err-Device-clause-included g c =
     let d = rw c.in-Err-Device.field-0-is at c.in-Err-Device.ensures.declines in
     rw (← c.self.view_is) (λ honest start n.
     opened_in_vain (g.F.Files.sources c.args.files.now) (map (λ d. d.now) c.args.directories.now) c.args.text.now n c.self.invariant.0 d.0
-        d.1 (t.leaves honest))
+    d.1 (t.leaves honest))
 
 pub returns-in-Err-Device-clause-cause : goal.returns-in-Err-Device-clause-cause
 returns-in-Err-Device-clause-cause g c = λ device.

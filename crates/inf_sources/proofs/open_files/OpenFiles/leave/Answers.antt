@@ -44,7 +44,7 @@ returns-clause-nesting g c =
     left_nesting (files.sources c.args.files.now) start (files.openings c.args.files.now) (files.openings c.leave.new.files)
     (record { nest = inside.names; lexer = inside.lexer; outer = inside.outer.items })
     (record { nest = c.keep.new.self; lexer = c.replace-left.new.dest; outer = c.pop.new.self.items }) c.in_ok-lexer.field-0 n
-        (c.leave.ensures.closes.closes honest) c.in_ok-lexer.ensures.items
+    (c.leave.ensures.closes.closes honest) c.in_ok-lexer.ensures.items
     c.replace-left.ensures.after (c.keep.ensures ∙ c.leave.ensures.left))
 
 pub returns-clause-went : goal.returns-clause-went
