@@ -1,22 +1,23 @@
 -- Calls of a session that follow one another: a part that is read, and what the call makes of it.
-use Rattle.std.proofs.Common.{◌≡◌, ◌⊎◌, inl, inr, ℕ, zero, ◌<◌, ◌≤◌, List, [], ◌++◌, length, Bool, true, false, Option, Result, Ok, Err}
-use Rattle.std.proofs.Common.{refl, sym, ap, subst, ◌∙◌, IsTrue, append-nil}
+use Rattle.std.proofs.Common.{◌≡◌, inl, inr, ℕ, zero, ◌<◌, ◌≤◌, List, [], ◌++◌, length, false, Option, Result, Ok, Err}
+use Rattle.std.proofs.Common.{refl, sym, ap, subst, ◌∙◌, append-nil}
 use Rattle.std.specs.Bool.{⊤}
 use Rattle.inf_settings.specs.Bounds.{Limits}
 use Rattle.inf_devices.specs.{Files.Openings, Files.Rose, Files.Sources, Sinks.Takes, declared.files.Files.Ghosts as Files}
 use Rattle.inf_devices.specs.declared.sinks.Sink.{Ghosts as Sink}
 use Rattle.inf_lexer.proofs.Candidates.{rose_earlier}
-use Rattle.inf_sources.specs.{Calls.IsUnreadable, Calls.StaysFit, Calls.Went, Open.Open, Open.opened_since}
-use Rattle.inf_session.specs.{Choices.Choices, Choices.chosen, Choices.most_quoted, Leading.CutsShort, Leading.GivenUp, Leading.StopsFor}
+use Rattle.inf_sources.specs.{Calls.IsUnreadable, Calls.Went, Open.Open, Open.opened_since}
+use Rattle.inf_session.specs.{Choices.Choices, Choices.chosen, Choices.most_quoted, Leading.GivenUp, Leading.StopsFor}
 use Rattle.inf_session.specs.Session.{State, has_ended, run}
 use Rattle.inf_reader.specs.declared.progress.Progress.{Progress}
-use Rattle.inf_session.specs.{Standing.IsSet, Standing.ended}
+use Rattle.inf_session.specs.{Standing.ended}
 use Rattle.inf_session.specs.{Standing.state, declared.session.Session.Session, declared.setup.Setup.Setup}
 use Rattle.inf_ending.specs.{Delivered.Appends, Delivered.IsFront, Faults.Caused}
 use Rattle.inf_ending.specs.{Faults.IfRead, Faults.UnlessMessages, declared.faults.Fault.Fault}
 use Rattle.inf_ending.proofs.{Delivering.appends_then, Delivering.takes_none, Quiet.unless_more}
-use Rattle.inf_session.proofs.Standings.{caused_more, read_more}
-use Rattle.inf_calls.specs.Answers.{Adds, Answers, Ends, EndsCut, EndsText, Fails, HasCause, IfFailure, IfLost, ReadFails, Reads, Stays, is_lost}
+use Rattle.inf_session.proofs.Promises.{caused_more, read_more}
+use Rattle.inf_calls.specs.Answers.{Adds, Answers, Ends, EndsCut, EndsText, Fails, HasCause, IfFailure, IfLost, ReadFails, Reads, Stays}
+use Rattle.inf_calls.specs.Answers.{is_lost}
 use Rattle.inf_output.specs.declared.operands.Simple.{Simple}
 use Rattle.inf_calls.specs.Calls.{Answered, and_then, done}
 use Rattle.inf_calls.specs.declared.faults.UnitFault.{UnitFault}
@@ -61,8 +62,7 @@ pub caused_here : {R M B T : Type 0} (f : Files R) (m : Sink M) (was is : R) (ol
 caused_here f m was is old between new before mid after answer more c =
     if_lost answer (λ fault. Caused fault (λ name. ⊥) (Rose (m.failures between) (m.failures new)))
     (λ fault. Caused fault (λ name. IsUnreadable f was is before.open_files after.open_files) (Rose (m.failures old) (m.failures new)))
-    (λ fault. caused_more fault (λ name. ⊥) (λ name. IsUnreadable f was is before.open_files after.open_files)
-    (Rose (m.failures between) (m.failures new)) (Rose (m.failures old) (m.failures new)) (λ name never. absurd never)
+    (λ fault. caused_more fault (λ name never. absurd never)
     (rose_earlier (m.failures old) (m.failures between) (m.failures new) more)) c
 
 pub adds_then : {M T : Type 0} (m : Sink M) (old between new : M) (answer : Result T UnitFault) → Appends m old between →
@@ -243,7 +243,7 @@ module _ {R M B : Type 0} (f : Files R) (m : Sink M) (limits : Limits) (was is :
         };
         others = x.others;
         opened = λ told. x.opened told ∙ ap (λ s. (run limits sources o x.others (begin s)).nesting.openings) (is_first told);
-        unread = read_more fault _ _ (λ name y. record {
+        unread = read_more fault (λ name y. record {
           turns = y.turns;
           wrote = record {
             lines = y.wrote.lines;

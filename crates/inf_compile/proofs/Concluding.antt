@@ -1,7 +1,7 @@
 -- The bytes written up to the end of a compilation, or up to where it was given up.
 use Rattle.std.proofs.Common.{◌≡◌, ℕ, ◌+◌, ◌≤◌, List, [], ◌∷◌, ◌++◌, length, length-append, map, reverse, get_or, unwrap_or, cond, drop}
 use Rattle.std.proofs.Common.{Bool, true, false, Option, Some, None, arith, Result, Ok, Err, IfOk, IfErr, OnErr, refl, sym, ap, subst, ◌∙◌}
-use Rattle.std.proofs.Common.{append_assoc, IsErrOf, OnOk}
+use Rattle.std.proofs.Common.{append_assoc, IfNone, IfSome, IsErrOf, OnOk}
 use Rattle.inf_settings.specs.Bounds.{limits_of, Limits}
 use Rattle.inf_devices.specs.{Files.Opening, Files.Openings, Files.Sources, Files.opened, Sinks.Takes}
 use Rattle.inf_lexer.specs.{Readers.Reader, Unread.View, Unread.innermost_place, Unread.unread_of}
@@ -14,7 +14,7 @@ use Rattle.inf_conditionals.specs.Open.{Conditions, no_conditions}
 use Rattle.inf_compilation.specs.{Actions.Compilation, Works.work as work_of}
 use Rattle.inf_unit.specs.Messages.{FileNames}
 use Rattle.inf_reader.specs.{Reading.ReaderState, Standing.standing}
-use Rattle.inf_session.specs.{Choices.Choices, Standing.state, Veneer.supplied, declared.session.Session.Session}
+use Rattle.inf_session.specs.{Choices.Choices, Promises.fault_in, Standing.state, Veneer.supplied, declared.session.Session.Session}
 use Rattle.inf_session.specs.Leading.{CutsShort, Writes}
 use Rattle.inf_session.specs.Session.{IsRead, State, begun_with, first_state, has_ended, run, start}
 use Rattle.inf_ending.specs.{Delivered.Delivers, Delivered.IsFront, Delivered.TakesFront, Ending.Outcome, Ending.finished, Ending.missing}
@@ -91,21 +91,21 @@ breaks_off limits o serial was old new cut = record {
   takes = cut.takes;
   begins = λ told.
       let v = supplied limits o (was told) in
-      front_then (told ++ cut.front) v.told (ending_of limits o serial (was told)).messages (cut.begins told)
+      front_then {ys = v.told} (cut.begins told)
       (front_more v.told (finished limits serial v.nesting.names v.work).messages);
 }
 
 -- the veneer is supplied whatever the files are
-pub supplies_all : {B T E : Type 0} (r : Result T E) (limits : Limits) (o : Choices) (was now : Session B) (old new : Option (List ℕ))
-    → ((sources : Sources) → (start opened : Openings) → OnOk r (Writes (supplied limits o) (state sources start opened was)
+pub supplies_all : {B T : Type 0} (r : Result T Fault) (limits : Limits) (o : Choices) (was now : Session B) (old new : Option (List ℕ))
+    → ((sources : Sources) → (start opened : Openings) → IfNone (fault_in r) (Writes (supplied limits o) (state sources start opened was)
     (state sources start opened now) old new)) → OnOk r (SuppliesAll limits o was now old new)
 unfolding SuppliesAll
 supplies_all (Ok x) limits o was now old new h = h
 supplies_all (Err fault) limits o was now old new h = tt
 
-pub supplies_part : {B T E : Type 0} (r : Result T E) (limits : Limits) (o : Choices) (was : Session B) (old new : Option (List ℕ))
-    → ((sources : Sources) → (start opened : Openings) → OnErr r (CutsShort (supplied limits o) (state sources start opened was) old new))
-    → OnErr r (SuppliesPart limits o was old new)
+pub supplies_part : {B T : Type 0} (r : Result T Fault) (limits : Limits) (o : Choices) (was : Session B) (old new : Option (List ℕ))
+    → ((sources : Sources) → (start opened : Openings) → IfSome (fault_in r) (λ e.
+    CutsShort (supplied limits o) (state sources start opened was) old new)) → OnErr r (SuppliesPart limits o was old new)
 unfolding SuppliesPart
 supplies_part (Ok x) limits o was old new h = tt
 supplies_part (Err fault) limits o was old new h = h
@@ -185,9 +185,8 @@ stops_reading limits sources o serial was old new turns cut = record {
       subst (λ (t : State). IsFront (run limits sources o turns s).told t.told) read.leads
       (end_begins limits sources o turns read.turns s (ap has_ended read.leads ∙ read.ends)) in
       let v = supplied limits o final in
-      front_then cut.front final.told (ending_of limits o serial final).messages
-      (front_then cut.front (run limits sources o turns s).told final.told (cut.begins []) some)
-      (front_then final.told v.told (ending_of limits o serial final).messages (supplied_begins limits o final)
+      front_then {ys = final.told} (front_then {ys = (run limits sources o turns s).told} (cut.begins []) some)
+      (front_then {ys = v.told} (supplied_begins limits o final)
       (front_more v.told (finished limits serial v.nesting.names v.work).messages));
 }
 
@@ -242,8 +241,8 @@ early_reading limits sources o was old new turns cut = record {
       subst (λ (t : State). IsFront (run limits sources o turns s).told t.told) read.leads
       (end_begins limits sources o turns read.turns s (ap has_ended read.leads ∙ read.ends)) in
       let v = supplied limits o final in
-      front_then cut.front final.told v.told
-      (front_then cut.front (run limits sources o turns s).told final.told (cut.begins []) some) (supplied_begins limits o final);
+      front_then {ys = final.told} (front_then {ys = (run limits sources o turns s).told} (cut.begins []) some)
+      (supplied_begins limits o final);
 }
 
 pub early_none : (limits : Limits) (sources : Sources) (o : Choices) (s : State) (old : Option (List ℕ))

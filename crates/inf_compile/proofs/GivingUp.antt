@@ -16,7 +16,8 @@ use Rattle.inf_sources.proofs.Places.{innermost_of, last_of}
 use Rattle.inf_session.specs.{Choices.Choices, Leading.GivenUp, Leading.OpensAll, Leading.StopsAtInclusion, Leading.StopsFor}
 use Rattle.inf_session.specs.{Leading.StopsInToken, Session.State, Session.has_ended, Session.run, Session.start, Session.stepped}
 use Rattle.inf_ending.specs.{Faults.IfRead, declared.faults.Fault.Fault}
-use Rattle.inf_session.proofs.{Leadings.stops_more, Standings.if_read_more}
+use Rattle.inf_session.proofs.Leadings.{stops_more}
+use Rattle.inf_compile.proofs.Telling.{if_read_more}
 use Rattle.inf_ending.proofs.Delivering.{takes_none}
 use Rattle.inf_compile.specs.Comes.{AreAt, GivenUpFrom, Heard, IsUnread, OpenedSome, StopsReading, main_front, numbers_of}
 use Rattle.inf_compile.proofs.{Concluding.at_all, Heading.heard_in_head}

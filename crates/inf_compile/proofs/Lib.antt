@@ -1,3 +1,4 @@
+pub mod Telling
 pub mod Delivering
 pub mod Heading
 pub mod Concluding

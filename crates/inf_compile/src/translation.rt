@@ -1,11 +1,12 @@
 //! The compilation of a main source with the files that it includes.
-ghost use Rattle.std.specs.Prelude.{◌≡◌, ℕ, ◌<◌, List, [], None, false, IsTrue, IfOk, IfErr, OnErr, OnOk, length};
+ghost use Rattle.std.specs.Prelude.{◌≡◌, ℕ, ◌<◌, [], None, false, IsTrue, IfOk, IfErr, OnErr, OnOk, length};
 ghost use Rattle.inf_devices.specs.Files.{Rose};
 ghost use Rattle.inf_sources.specs.Calls.{Honestly, IsUnreadable, Kept, StaysFit, Went};
 ghost use Rattle.inf_sources.specs.Open.{nesting, opened_since};
 ghost use Rattle.inf_session.specs.{Choices.chosen, Choices.most_quoted, Leading.GivenUp, Leading.OpensAll, Session.first_state};
-ghost use Rattle.inf_session.specs.{Session.run, Session.start, Standing.IsSet, Standing.state};
-ghost use Rattle.inf_ending.specs.Delivered.{Appends, SucceedsClean};
+ghost use Rattle.inf_session.specs.{Promises.Supplies, Promises.fault_in, Session.run, Session.start, Standing.IsSet, Standing.state};
+ghost use Rattle.inf_session.specs.Veneer.{supplied};
+ghost use Rattle.inf_ending.specs.Delivered.{SucceedsClean};
 ghost use Rattle.inf_ending.specs.Faults.{Caused, HidesNoFailure, IfRead, TellsEachRead};
 ghost use Rattle.inf_settings.specs.Bounds.{limits_of};
 ghost use Rattle.inf_compile.specs.Chosen.{begun_at, chosen_at, chosen_for};
@@ -266,10 +267,7 @@ fn supply_all<M: Sink, B: Bounds>(
     ensures supplied { OnOk result (SuppliesAll B.most (chosen session.old.setup) session.old session.new (M.taken messages.old)
         (M.taken messages.new)) }
     ensures cut { OnErr result (SuppliesPart B.most (chosen session.old.setup) session.old (M.taken messages.old) (M.taken messages.new)) }
-    ensures files { session.new.open_files ≡ session.old.open_files }
-    ensures fault { IfErr result (λ fault. Caused fault (λ name. ⊥) (Rose (M.failures messages.old) (M.failures messages.new))) }
-    ensures wrote { Appends M.Sink messages.old messages.new
-        × HidesNoFailure result (M.failures messages.old) (M.failures messages.new) }
+    ensures called { Supplies M.Sink (supplied B.most) messages.old messages.new session.old session.new (fault_in result) }
 {
     session.supply(messages)
 }

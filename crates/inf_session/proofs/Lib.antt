@@ -1,4 +1,6 @@
 pub mod Leadings
+pub mod Promises
+pub mod Runs
 pub mod Opening
 pub mod Turning
 pub mod Weighing
@@ -11,4 +13,3 @@ pub mod Supplying
 pub mod TextTurns
 pub mod Parting
 pub mod Passing
-pub mod Telling

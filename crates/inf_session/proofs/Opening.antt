@@ -1,20 +1,30 @@
 -- The sources that have been opened where a turn was given up.
-use Rattle.std.proofs.Common.{◌≡◌, inl, inr, ℕ, List, Bool, false, cond, IfOk, Ok, OnOk, Result, refl, subst, sym, ap, ◌∙◌}
-use Rattle.inf_settings.specs.Bounds.{Limits}
+use Rattle.std.proofs.Common.{◌≡◌, inl, inr, ℕ, List, [], length, nat_le, not, ◌+◌, Bool, false, true, cond, None, Some, Option, Ok, OnOk}
+use Rattle.std.proofs.Common.{Result, refl, subst, sym, ap, ◌∙◌}
 use Rattle.inf_devices.specs.Files.{Openings, Sources}
 use Rattle.inf_characters.specs.declared.characters.CharSet.{CharSet}
 use Rattle.inf_scanner.specs.declared.tokens.Place.{Place}
 use Rattle.inf_unit.proofs.Cases.{of_both}
-use Rattle.inf_unit.specs.Directives.{Request, Characters, Include}
+use Rattle.inf_unit.specs.Directives.{Request, Include}
 use Rattle.inf_reader.specs.{Reading.is_mode_ended, declared.recovery.Recovery.Recovery}
 use Rattle.inf_sources.specs.declared.{faults.IncludeFault.IncludeFault, open_file.Conditional.Conditional, open_files.Included.Included}
 use Rattle.inf_conditionals.specs.Open.{Conditions}
 use Rattle.inf_unit.specs.Messages.{Reported}
+use Rattle.inf_lexer.specs.{Entering.first_there, Names.can_name, Names.candidates}
+use Rattle.inf_conditionals.specs.Ends.{with_among}
+use Rattle.inf_session.specs.Choices.{most_quoted}
+use Rattle.inf_sources.specs.Inclusions.{by_first, innermost_name, with_opened}
 use Rattle.inf_sources.specs.Inclusions.{Inclusion, Nesting, OpenedInVain, Opens, OpensNone, answer_of, inclusion, nested_by}
 use Rattle.inf_sources.specs.Open.{Open, nesting, opened_since}
-use Rattle.inf_session.specs.{Choices.Choices, Leading.OpensWithin, Standing.state, declared.session.Session.Session}
+use Rattle.inf_session.specs.{Choices.Choices, Leading.NotTried, Leading.OpensWithin, Promises.Stops, Promises.at_inclusion}
+use Rattle.inf_session.specs.{Promises.in_inclusion}
+use Rattle.inf_session.specs.{Promises.nowhere, Standing.is_fatal, Standing.state}
+use Rattle.inf_session.proofs.Promises.{read_more}
+use Rattle.inf_session.specs.declared.session.Session.{Session}
+use Rattle.inf_devices.specs.declared.files.Files.{Ghosts as Files}
+use Rattle.inf_ending.specs.declared.faults.Fault.{Fault}
 use Rattle.inf_session.specs.Session.{State, answered, asked_nothing, followed, has_ended, carried_out, included, included_by, is_resting}
-use Rattle.inf_session.specs.Session.{left, none_included, piece_closed, rested, stepped, turn}
+use Rattle.inf_session.specs.Session.{left, none_included, piece_closed, rested, turn}
 
 -- Lemmas about an inclusion
 
@@ -47,9 +57,6 @@ tried sources o unit text set limit conditionals is_system start old new before 
 
 -- Lemmas about what holds of a result that is known
 
-pub at_ok : (T E : Type 0) (r : Result T E) (P : T → Type 0) (x : T) → r ≡ Ok x → IfOk r P → P x
-at_ok T E r P x is holds = subst (λ (y : Result T E). IfOk y P) is holds
-
 pub on_ok_at : (T E : Type 0) (r : Result T E) (A : Type 0) (x : T) → r ≡ Ok x → OnOk r A → A
 on_ok_at T E r A x is holds = subst (λ (y : Result T E). OnOk y A) is holds
 
@@ -71,6 +78,51 @@ none_is : (unit : Place) (text : List ℕ) (why : Included) (s : State)
 none_is unit text Included.Entered s = refl
 none_is unit text Included.NotThere s = refl
 none_is unit text Included.TooDeep s = refl
+
+-- a file was entered
+never_by : (a b : Bool) (first : Option (List ℕ)) →
+    cond a (OpensNone Included.NotThere) (cond b (OpensNone Included.TooDeep) (by_first first)) ≡ OpensNone Included.Entered → ⊥
+never_by true b first e = cc
+never_by false true first e = cc
+never_by false false None e = cc
+never_by false false (Some name) e = cc
+
+entered_by : (sources : Sources) (o : Choices) (unit : Place) (text : List ℕ) (set : CharSet) (limit : ℕ) (among : List Conditional)
+    (is_system now_system : Bool) (s : State) (n : Nesting) (c : Conditions) (i : Inclusion)
+    → (i ≡ OpensNone Included.Entered → ⊥) → Included.Entered ≡ answer_of i → n ≡ nested_by set limit sources among is_system i s.nesting
+    → set ≡ s.nesting.cursor.set → limit ≡ most_quoted o → among ≡ s.conditions.among → is_system ≡ s.work.is_system
+    → c ≡ with_among [] s.conditions → now_system ≡ false
+    → record s { nesting = n; conditions = c; work = record s.work { is_system = now_system } } ≡ included_by sources o unit text i s
+entered_by sources o unit text set limit among is_system now_system s n c (Opens name) never is opened a b d e f g =
+    ap (λ (m : Nesting). record s { nesting = m; conditions = c; work = record s.work { is_system = now_system } })
+    (opened ∙ ap (λ (x : CharSet). with_opened x limit sources among is_system name s.nesting) a
+    ∙ ap (λ l. with_opened s.nesting.cursor.set l sources among is_system name s.nesting) b
+    ∙ ap (λ (l : List Conditional). with_opened s.nesting.cursor.set (most_quoted o) sources l is_system name s.nesting) d
+    ∙ ap (λ x. with_opened s.nesting.cursor.set (most_quoted o) sources s.conditions.among x name s.nesting) e)
+    ∙ ap (λ (x : Conditions). record s {
+      nesting = with_opened s.nesting.cursor.set (most_quoted o) sources s.conditions.among s.work.is_system name s.nesting;
+      conditions = x;
+      work = record s.work { is_system = now_system };
+    }) f
+    ∙ ap (λ x. record s {
+      nesting = with_opened s.nesting.cursor.set (most_quoted o) sources s.conditions.among s.work.is_system name s.nesting;
+      conditions = with_among [] s.conditions;
+      work = record s.work { is_system = x };
+    }) g
+entered_by sources o unit text set limit among is_system now_system s n c (OpensNone why) never is opened a b d e f g =
+    absurd (never (ap OpensNone (sym is)))
+
+pub entered : (sources : Sources) (o : Choices) (unit : Place) (text : List ℕ) (set : CharSet) (limit : ℕ) (among : List Conditional)
+    (is_system now_system : Bool) (s : State) (n : Nesting) (c : Conditions)
+    → let i = inclusion sources o.directories text s.nesting in
+    Included.Entered ≡ answer_of i → n ≡ nested_by set limit sources among is_system i s.nesting
+    → set ≡ s.nesting.cursor.set → limit ≡ most_quoted o → among ≡ s.conditions.among → is_system ≡ s.work.is_system
+    → c ≡ with_among [] s.conditions → now_system ≡ false
+    → record s { nesting = n; conditions = c; work = record s.work { is_system = now_system } } ≡ included sources o unit text s
+entered sources o unit text set limit among is_system now_system s n c is opened a b d e f g =
+    entered_by sources o unit text set limit among is_system now_system s n c (inclusion sources o.directories text s.nesting)
+    (λ never. never_by (not (can_name text)) (nat_le 16 (length s.nesting.waiting + 1))
+    (first_there sources (candidates o.directories (innermost_name s.nesting) text)) never) is opened a b d e f g
 
 pub not_entered : {B : Type 0} (sources : Sources) (o : Choices) (unit : Place) (text : List ℕ) (set : CharSet) (limit : ℕ)
     (conditionals : List Conditional) (was_system is_system : Bool) (start old new : Openings)
@@ -113,53 +165,79 @@ not_ended Recovery.SkipsDirective h = refl
 not_ended Recovery.SkipsRoutine h = refl
 not_ended Recovery.Ended h = absurd (h refl)
 
-pub heeds : (sources : Sources) (o : Choices) (unit : Place) (text : List ℕ) (s : State) → s.work.report.counts.is_over ≡ false →
-    is_mode_ended s.reading.mode ≡ false
-    → s.work.asked ≡ Include text unit → included sources o unit text (asked_nothing s) ≡ carried_out sources o s
-heeds sources o unit text s going reads asks =
+-- what a directive asks is done behind a token that ends no file
+pub carries_out : (sources : Sources) (o : Choices) (asked : Request) (s : State) → s.work.report.counts.is_over ≡ false →
+    is_mode_ended s.reading.mode ≡ false → s.work.asked ≡ asked → answered asked sources o (asked_nothing s) ≡ carried_out sources o s
+carries_out sources o asked s going reads asks =
     sym (ap (λ b. cond b s (cond (is_mode_ended s.reading.mode) (left s) (answered s.work.asked sources o (asked_nothing s)))) going
     ∙ ap (λ b. cond b (left s) (answered s.work.asked sources o (asked_nothing s))) reads
     ∙ ap (λ (a : Request). answered a sources o (asked_nothing s)) asks)
 
--- all sources are read by another character set
-pub turns : (sources : Sources) (o : Choices) (set : CharSet) (s : State) → s.work.report.counts.is_over ≡ false →
-    is_mode_ended s.reading.mode ≡ false
-    → s.work.asked ≡ Characters set → answered (Characters set) sources o (asked_nothing s) ≡ carried_out sources o s
-turns sources o set s going reads asks =
+-- at the end of a file it is left
+pub leaves : (sources : Sources) (o : Choices) (s : State) → s.work.report.counts.is_over ≡ false → is_mode_ended s.reading.mode ≡ true →
+    left s ≡ carried_out sources o s
+leaves sources o s going ends =
     sym (ap (λ b. cond b s (cond (is_mode_ended s.reading.mode) (left s) (answered s.work.asked sources o (asked_nothing s)))) going
-    ∙ ap (λ b. cond b (left s) (answered s.work.asked sources o (asked_nothing s))) reads
-    ∙ ap (λ (a : Request). answered a sources o (asked_nothing s)) asks)
+    ∙ ap (λ b. cond b (left s) (answered s.work.asked sources o (asked_nothing s))) ends)
 
-pub carried_out_within : (sources : Sources) (o : Choices) (unit : Place) (text : List ℕ) (was mid : List ℕ → State)
-    (openings : List (List ℕ))
-    → ((told : List ℕ) → (was told).work.report.counts.is_over ≡ false) → ((told : List ℕ) → is_mode_ended (was told).reading.mode ≡ false)
-    → ((told : List ℕ) → (was told).work.asked ≡ Include text unit) → ((told : List ℕ) → mid told ≡ asked_nothing (was told))
-    → OpensWithin (included sources o unit text) mid openings → OpensWithin (carried_out sources o) was openings
-carried_out_within sources o unit text was mid openings going reads asks same (inl h) =
-    inl (λ told. h told ∙ ap (λ (s : State). s.nesting.openings) (same told))
-carried_out_within sources o unit text was mid openings going reads asks same (inr h) =
-    inr (λ told. h told ∙ ap (λ (s : State). (included sources o unit text s).nesting.openings) (same told)
-    ∙ ap (λ (s : State). s.nesting.openings) (heeds sources o unit text (was told) (going told) (reads told) (asks told)))
+leaving_by : (sources : Sources) (o : Choices) (was : List ℕ → State) (openings : List (List ℕ))
+    → ((told : List ℕ) → left (was told) ≡ carried_out sources o (was told)) → OpensWithin left was openings
+    → OpensWithin (carried_out sources o) was openings
+leaving_by sources o was openings same (inl before) = inl before
+leaving_by sources o was openings same (inr there) = inr (λ told. there told ∙ ap (λ (s : State). s.nesting.openings) (same told))
+
+module _ {R B : Type 0} {f : Files R} {a b : R} {x z : Session B} {failed : Type 0} {sources : Sources} {o : Choices} {start : Openings}
+    {e : Fault} where
+  -- Where a file was left, or the file of an inclusion was not entered, the request was not carried out.
+  pub leaving_stops : is_fatal x ≡ false → is_mode_ended x.progress.reader.mode ≡ true
+      → Stops f (λ s c. left) nowhere a b x z failed sources o start e → Stops f carried_out at_inclusion a b x z failed sources o start e
+  leaving_stops going ends h = record {
+    opened = leaving_by sources o (state sources start (f.openings a) x) (opened_since start (f.openings b))
+        (λ told. leaves sources o (state sources start (f.openings a) x told) going ends) h.opened;
+    unread = read_more e (λ name never told. absurd (never told)) h.unread;
+  }
+
+  pub including_stops : {y : Session B} {text : List ℕ} {unit : Place}
+      → is_fatal x ≡ false → is_mode_ended x.progress.reader.mode ≡ false
+      → (state sources start (f.openings a) x []).work.asked ≡ Include text unit
+      → ((told : List ℕ) → state sources start (f.openings a) y told ≡ asked_nothing (state sources start (f.openings a) x told))
+      → Stops f (λ s c. included s c unit text) (in_inclusion text) a b y z failed sources o start e
+      → Stops f carried_out at_inclusion a b x z failed sources o start e
+  including_stops {text = text} {unit = unit} going reads asks same h =
+      let was = state sources start (f.openings a) x in
+      record {
+        opened = elim h.opened [
+          | inl before ↦ inl (λ told. before told ∙ ap (λ (s : State). s.nesting.openings) (same told))
+          | inr there ↦ inr (λ told. there told ∙ ap (λ (s : State). (included sources o unit text s).nesting.openings) (same told)
+              ∙ ap (λ (s : State). s.nesting.openings) (carries_out sources o (Include text unit) (was told) going reads asks))
+        ];
+        unread = read_more e (λ name why told. record {
+          unit = unit;
+          asks = asks ∙ ap (λ (t : List ℕ). Include t unit) (sym (why told).0);
+          reads = reads;
+          goes_on = going;
+          not_tried = subst (λ (t : List ℕ). NotTried failed sources o.directories t (was told).nesting (opened_since start (f.openings b)))
+              (sym (why told).0) (subst (λ (s : State). NotTried failed sources o.directories text s.nesting
+              (opened_since start (f.openings b))) (same told) (why told).1);
+        }) h.unread;
+      }
 
 -- Lemmas about the state behind the request
 
-rested_nesting : (s : State) → (rested s).nesting ≡ s.nesting
+pub rested_nesting : (s : State) → (rested s).nesting ≡ s.nesting
 rested_nesting s =
     of_both (λ (t : State). t.nesting ≡ s.nesting) (has_ended s) s (cond (is_resting s) (piece_closed s) s) (λ _. refl)
     (λ _. of_both (λ (t : State). t.nesting ≡ s.nesting) (is_resting s) (piece_closed s) s (λ _. refl) (λ _. refl))
 
-pub followed_within : (sources : Sources) (o : Choices) (was : List ℕ → State) (openings : List (List ℕ))
-    → OpensWithin (carried_out sources o) was openings → OpensWithin (followed sources o) was openings
-followed_within sources o was openings (inl h) = inl h
-followed_within sources o was openings (inr h) =
-    inr (λ told. h told ∙ ap (λ (n : Nesting). n.openings) (sym (rested_nesting (carried_out sources o (was told)))))
-
--- Lemmas about a turn
-
--- the sources that are opened behind the token of a turn
-pub turned_within : (limits : Limits) (sources : Sources) (o : Choices) (was mid : List ℕ → State) (openings : List (List ℕ)) →
-    ((told : List ℕ) → mid told ≡ stepped limits o (was told))
-    → OpensWithin (followed sources o) mid openings → OpensWithin (turn limits sources o) was openings
-turned_within limits sources o was mid openings first (inl h) = inl (λ told. h told ∙ ap (λ (s : State). s.nesting.openings) (first told))
-turned_within limits sources o was mid openings first (inr h) =
-    inr (λ told. h told ∙ ap (λ (s : State). (followed sources o s).nesting.openings) (first told))
+-- the sources that are opened behind the request stay those that were opened
+pub followed_stops : {R B : Type 0} {f : Files R} {a b : R} {x y : Session B} {failed : Type 0} {sources : Sources} {o : Choices}
+    {start : Openings} {e : Fault} → Stops f carried_out at_inclusion a b x y failed sources o start e
+    → Stops f followed at_inclusion a b x y failed sources o start e
+followed_stops {f = f} {a = a} {x = x} {sources = sources} {o = o} {start = start} h = record {
+  opened = elim h.opened [
+    | inl before ↦ inl before
+    | inr there ↦ inr (λ told. there told ∙ ap (λ (n : Nesting). n.openings)
+        (sym (rested_nesting (carried_out sources o (state sources start (f.openings a) x told)))))
+  ];
+  unread = h.unread;
+}

@@ -1,9 +1,12 @@
 -- The results of steps, of a source and of the veneer behind it, and the number of steps that are left.
-use Rattle.std.proofs.Common.{◌&&◌, is_none, ◌≡◌, ◌⊎◌, inl, inr, suc, ◌+◌, ◌-◌, ◌<◌, ◌≤◌, Bool, true, false, cond, Result, Ok, Err, IfOk}
+use Rattle.std.proofs.Common.{◌&&◌, ◌||◌, is_none, ◌≡◌, ◌⊎◌, inl, inr, suc, ◌+◌, ◌-◌, ◌<◌, ◌≤◌, Bool, true, false, cond, Result, Ok, Err}
+use Rattle.std.proofs.Common.{IfOk}
 use Rattle.std.proofs.Common.{refl, sym, ap, subst, ◌∙◌, arith}
+use Rattle.inf_conditionals.specs.Judging.{may_part}
+use Rattle.inf_reader.specs.{Handing.is_between, Reading.is_mode_ended, Standing.reading}
 use Rattle.inf_session.specs.{Choices.chosen, Choices.most_quoted, Veneer.most_texts, Veneer.next_text, Weights.steps_left, Weights.weight}
 use Rattle.inf_session.specs.{declared.session.Session.Session, declared.session.Step.Step, declared.setup.Setup.Setup}
-use Rattle.inf_session.specs.Standing.{HasObjects, IsBounded, came_to, ended, is_done, is_fatal, next_of}
+use Rattle.inf_session.specs.Standing.{HasObjects, IsBounded, came_to, ended, is_done, is_fatal, next_of, parted}
 
 -- Lemmas about whether something is left
 
@@ -16,6 +19,10 @@ going_is s e = ap (λ b. b && is_none (next_of s)) e
 pub done_by : {B : Type 0} (s : Session B) → ended s ≡ true → is_none (next_of s) ≡ true → is_done s ≡ true
 done_by s e none = done_is s e ∙ none
 
+-- a part has ended where reading has
+pub parted_by : {B : Type 0} (s : Session B) → ended s ≡ true → parted s ≡ true
+parted_by s e = ap (λ b. b || (is_between (reading s.progress.reader) && may_part s.conditionals)) e
+
 -- behind a fatal message no routine is read
 pub none_next : {B : Type 0} (s : Session B) → is_fatal s ≡ true → is_none (next_of s) ≡ true
 none_next s e = ap (λ b. is_none (next_text b s.passed s.progress.work.output.names)) e
@@ -23,6 +30,16 @@ none_next s e = ap (λ b. is_none (next_text b s.passed s.progress.work.output.n
 fatal_by : (b : Bool) (x : Step) → x ≡ cond b Step.Fatal Step.More → (x ≡ Step.More → ⊥) → b ≡ true
 fatal_by true x e more = refl
 fatal_by false x e more = absurd (more e)
+
+or_true : (a b : Bool) → (a || (true || b)) ≡ true
+or_true true b = refl
+or_true false b = refl
+
+-- a step that does not go on came to a fatal message, at which reading ends
+pub fatal_ends : {B : Type 0} (t : Session B) (x : Step) → x ≡ came_to false t → (x ≡ Step.More → ⊥) → ended t ≡ true
+fatal_ends t x came more =
+    ap (λ b. t.is_over || (b || is_mode_ended t.progress.reader.mode)) (fatal_by (is_fatal t) x came more)
+    ∙ or_true t.is_over (is_mode_ended t.progress.reader.mode)
 
 -- a part of the source that does not go on ended with a fatal message
 pub part_ends : {B : Type 0} (t : Session B) (x : Step) → x ≡ came_to false t → (x ≡ Step.More → ⊥) → ended t ≡ true → is_done t ≡ true

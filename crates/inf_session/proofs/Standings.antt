@@ -1,18 +1,15 @@
 -- The state behind a file that was left or entered, a refused inclusion, and a turn.
-use Rattle.std.proofs.Common.{◌≡◌, ℕ, List, [], ◌∷◌, ◌++◌, length, drop, reverse, get_or, Bool, Option, refl, sym, ap, subst, ◌∙◌}
-use Rattle.std.proofs.Common.{append_assoc, Result, Ok, Err, IfErr}
-use Rattle.inf_settings.specs.Bounds.{Limits}
-use Rattle.inf_devices.specs.{Files.Openings, Files.Sources, Files.opened, Sinks.Takes}
+use Rattle.std.proofs.Common.{◌≡◌, ℕ, List, [], ◌∷◌, ◌++◌, length, drop, reverse, get_or, Bool, refl, sym, ap, subst, ◌∙◌}
+use Rattle.inf_devices.specs.{Files.Openings, Files.Sources, Files.opened}
 use Rattle.inf_sources.specs.{Cursors.Cursor, declared.open_file.OpenFile.OpenFile}
 use Rattle.inf_sources.specs.Inclusions.{Nesting, Waiting, closed, resumed}
 use Rattle.inf_sources.specs.Open.{AreNested, IsNested, Open, cursor_of, lexers_of, nesting, rest_of, waiting_at}
 use Rattle.inf_sources.proofs.Places.{innermost_of, reverse_last}
 use Rattle.inf_conditionals.specs.{Ends.file_ended, Ends.file_told, Ends.with_among, Open.Conditions}
-use Rattle.inf_unit.specs.Messages.{Reported, flushed}
+use Rattle.inf_unit.specs.Messages.{Reported}
 use Rattle.inf_reader.specs.declared.recovery.Recovery.{Recovery}
-use Rattle.inf_session.specs.{Choices.Choices, Leading.CutsShort, Leading.Writes, Standing.state, declared.session.Session.Session}
-use Rattle.inf_session.specs.Session.{State, file_closed, followed, left, left_by, stepped, told_out, turn}
-use Rattle.inf_ending.specs.{Faults.Caused, Faults.IfRead, Faults.fault_of, declared.faults.Fault.Fault, declared.faults.Halt.Halt}
+use Rattle.inf_session.specs.{Standing.state}
+use Rattle.inf_session.specs.Session.{State, file_closed, left, left_by, turn}
 
 -- Lemmas about files that wait
 
@@ -93,94 +90,3 @@ stays s n c r ended told e none =
     ap (λ (x : State). record x { nesting = n }) (closed_is s c r ended told)
     ∙ ap (λ (m : Nesting). record (file_closed s) { nesting = m }) e
     ∙ sym (ap (λ (waiting : List Waiting). left_by waiting (file_closed s)) none)
-
--- Lemmas about faults
-
-pub caused_more : (f : Fault) (P Q : List ℕ → Type 0) (A B : Type 0) → ((name : List ℕ) → P name → Q name) → (A → B) → Caused f P A →
-    Caused f Q B
-caused_more Fault.Memory P Q A B h k p = tt
-caused_more (Fault.Read name) P Q A B h k p = h _ p
-caused_more Fault.Messages P Q A B h k p = k p
-caused_more (Fault.Story n) P Q A B h k p = p
-
-pub if_caused_more : {T : Type 0} (r : Result T Fault) (P Q : List ℕ → Type 0) (A B : Type 0) → ((name : List ℕ) → P name → Q name) →
-    (A → B)
-    → IfErr r (λ f. Caused f P A) → IfErr r (λ f. Caused f Q B)
-if_caused_more (Ok x) P Q A B h k p = tt
-if_caused_more (Err f) P Q A B h k p = caused_more f P Q A B h k p
-
-pub read_more : (f : Fault) (P Q : List ℕ → Type 0) → ((name : List ℕ) → P name → Q name) → IfRead f P → IfRead f Q
-read_more Fault.Memory P Q h p = tt
-read_more (Fault.Read name) P Q h p = h _ p
-read_more Fault.Messages P Q h p = tt
-read_more (Fault.Story n) P Q h p = tt
-
-pub if_read_more : {T : Type 0} (r : Result T Fault) (P Q : List ℕ → Type 0) → ((name : List ℕ) → P name → Q name) →
-    IfErr r (λ f. IfRead f P) → IfErr r (λ f. IfRead f Q)
-if_read_more (Ok x) P Q h p = tt
-if_read_more (Err f) P Q h p = read_more f P Q h p
-
--- Lemmas about the fault that is told for a turn that was given up
-
-pub if_halt_caused : {T : Type 0} (r : Result T Halt) (lost : Option Fault) (P Q : List ℕ → Type 0) (A B : Type 0)
-    → ((name : List ℕ) → P name → Q name) → (A → B)
-    → IfErr r (λ h. Caused (fault_of h lost) P A) → IfErr r (λ h. Caused (fault_of h lost) Q B)
-if_halt_caused (Ok x) lost P Q A B h k p = tt
-if_halt_caused (Err halt) lost P Q A B h k p = caused_more (fault_of halt lost) P Q A B h k p
-
-pub if_halt_read : {T : Type 0} (r : Result T Halt) (lost : Option Fault) (P Q : List ℕ → Type 0)
-    → ((name : List ℕ) → P name → Q name) → IfErr r (λ h. IfRead (fault_of h lost) P) → IfErr r (λ h. IfRead (fault_of h lost) Q)
-if_halt_read (Ok x) lost P Q h p = tt
-if_halt_read (Err halt) lost P Q h p = read_more (fault_of halt lost) P Q h p
-
-pub read_both : (f : Fault) (A : Type 0) (P Q : List ℕ → Type 0) → ((name : List ℕ) → A → P name → Q name)
-    → IfRead f (λ name. A) → IfRead f P → IfRead f Q
-read_both Fault.Memory A P Q h a p = tt
-read_both (Fault.Read name) A P Q h a p = h _ a p
-read_both Fault.Messages A P Q h a p = tt
-read_both (Fault.Story n) A P Q h a p = tt
-
--- Lemmas about a turn, with its messages
-
--- the state with no message that is not written
-abbrev pub emptied : State → State
-emptied s = record s { work = record s.work { report = flushed s.work.report } }
-
--- a turn was made and its lines were written
-pub turn_writes : (limits : Limits) (sources : Sources) (o : Choices) (was mid now final : List ℕ → State) (old new : Option (List ℕ))
-    (lines : List ℕ)
-    → ((told : List ℕ) → mid told ≡ stepped limits o (was told)) → ((told : List ℕ) → now told ≡ followed sources o (mid told))
-    → ((told : List ℕ) → told_out (now told) ≡ emptied (now (told ++ lines))) → ((told : List ℕ) → final told ≡ emptied (now told))
-    → Takes old new lines → Writes (turn limits sources o) was final old new
-turn_writes limits sources o was mid now final old new lines first next out last takes = record {
-  lines = lines;
-  takes = takes;
-  same = λ told.
-      last (told ++ lines) ∙ sym (out told) ∙ ap told_out (next told) ∙ ap (λ (s : State). told_out (followed sources o s)) (first told);
-}
-
--- a turn was made, and a front of its lines was written
-pub turn_cut : (limits : Limits) (sources : Sources) (o : Choices) (was mid now : List ℕ → State) (old new : Option (List ℕ))
-    (lines front rest : List ℕ)
-    → ((told : List ℕ) → mid told ≡ stepped limits o (was told)) → ((told : List ℕ) → now told ≡ followed sources o (mid told))
-    → ((told : List ℕ) → (told_out (now told)).told ≡ told ++ lines) → lines ≡ front ++ rest
-    → Takes old new front → CutsShort (turn limits sources o) was old new
-turn_cut limits sources o was mid now old new lines front rest first next out cut takes = record {
-  front = front;
-  takes = takes;
-  begins = λ told.
-      let whole : turn limits sources o (was told) ≡ told_out (now told) =
-      ap (λ (s : State). told_out (followed sources o s)) (sym (first told)) ∙ ap told_out (sym (next told)) in
-      record {
-        rest = rest;
-        is_cut = ap (λ (s : State). s.told) whole ∙ out told ∙ ap (λ l. told ++ l) cut ∙ sym (append_assoc told front rest);
-      };
-}
-
--- The sources and the choices stay as they were.
-pub as_before : {B : Type 0} (s t : Sources) (o p : Choices) (start now after : Openings) (before next : Session B) → t ≡ s → p ≡ o
-    → ((told : List ℕ) → state t start after next told ≡ followed t p (state t start now before told))
-    → (told : List ℕ) → state s start after next told ≡ followed s o (state s start now before told)
-as_before s t o p start now after before next e f h told =
-    subst (λ (c : Choices). state s start after next told ≡ followed s c (state s start now before told)) f
-    (subst (λ (x : Sources). state x start after next told ≡ followed x p (state x start now before told)) e (h told))

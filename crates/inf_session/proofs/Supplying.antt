@@ -19,7 +19,12 @@ use Rattle.inf_session.specs.Veneer.{supplied_by, text_begun, text_front, text_r
 use Rattle.inf_unit.proofs.Cases.{of_both}
 use Rattle.inf_veneer.specs.Texts.{all_names, all_texts, name_of, numbered, text_of}
 use Rattle.inf_ending.specs.Delivered.{IsFront}
-use Rattle.inf_session.proofs.{Leadings.front_same, Leadings.front_then, Leadings.rested_told, Standings.emptied}
+use Rattle.inf_ending.specs.declared.faults.Fault.{Fault}
+use Rattle.inf_devices.specs.declared.sinks.Sink.{Ghosts as Sink}
+use Rattle.inf_session.specs.{Choices.chosen, Promises.Supplies}
+use Rattle.std.proofs.lemmas.Option.{IfSome_then}
+use Rattle.inf_session.proofs.Leadings.{cuts_as, cuts_nothing, front_same, front_then, rested_told, writes_as}
+use Rattle.inf_session.proofs.Promises.{none_then, wrote_none}
 use Rattle.inf_ending.proofs.Delivering.{takes_none, takes_then}
 
 -- Names and texts are short
@@ -57,9 +62,9 @@ text_few n = few_by (text_of n)
 
 -- Lemmas about the routine that is read
 
-none_then : (b : Bool) (n : ℕ) (others : Option ℕ) → cond b (Some n) others ≡ None → (b ≡ false) × (others ≡ None)
-none_then true n others e = let never : Some n ≡ None = e in cc
-none_then false n others e = (refl, e)
+neither : (b : Bool) (n : ℕ) (others : Option ℕ) → cond b (Some n) others ≡ None → (b ≡ false) × (others ≡ None)
+neither true n others e = let never : Some n ≡ None = e in cc
+neither false n others e = (refl, e)
 
 some_then : (b : Bool) (o : Option ℕ) (n : ℕ) → cond b None o ≡ Some n → (b ≡ false) × (o ≡ Some n)
 some_then true o n e = let never : None ≡ Some n = e in cc
@@ -106,7 +111,7 @@ none_left : (limits : Limits) (o : Choices) (k n : ℕ) (s : State) → first_wa
 none_left limits o zero n s e = refl
 none_left limits o (suc k) n s e =
     let names = s.work.output.names in
-    let unwanted = none_then (is_wanted (suc n) names) (suc n) (first_wanted k (suc n) names) e in
+    let unwanted = neither (is_wanted (suc n) names) (suc n) (first_wanted k (suc n) names) e in
     of_both (λ (t : State). t ≡ s) s.work.report.counts.is_over s _ (λ _. refl)
     (λ _. ap (λ b. supplied_by limits o k (suc n) (cond b (text_read limits o (suc n) s) s)) unwanted.0
     ∙ none_left limits o k (suc n) s unwanted.1)
@@ -195,42 +200,12 @@ by_begins limits o (suc k) n s =
     let wanted = is_wanted (suc n) s.work.output.names in
     let next = cond wanted (text_read limits o (suc n) s) s in
     of_both (λ (t : State). IsFront s.told t.told) s.work.report.counts.is_over s _ (λ _. front_same s.told)
-    (λ _. front_then s.told next.told (supplied_by limits o k (suc n) next).told
+    (λ _. front_then {ys = next.told}
     (of_both (λ (t : State). IsFront s.told t.told) wanted (text_read limits o (suc n) s) s (λ _. text_begins limits o (suc n) s)
     (λ _. front_same s.told)) (by_begins limits o k (suc n) next))
 
 pub supplied_begins : (limits : Limits) (o : Choices) (s : State) → IsFront s.told (supplied limits o s).told
 supplied_begins limits o s = by_begins limits o (most_texts - s.passed) s.passed s
-
--- Lemmas about a step by another name
-
-pub writes_as : (f g : State → State) (was now : List ℕ → State) (old new : Option (List ℕ)) → ((told : List ℕ) → f (was told)
-    ≡ g (was told))
-    → Writes f was now old new → Writes g was now old new
-writes_as f g was now old new same w =
-    record { lines = w.lines; takes = w.takes; same = λ told. w.same told ∙ same told }
-
-pub cuts_as : (f g : State → State) (was : List ℕ → State) (old new : Option (List ℕ)) → ((told : List ℕ) → f (was told) ≡ g (was told))
-    → CutsShort f was old new → CutsShort g was old new
-cuts_as f g was old new same c = record {
-  front = c.front;
-  takes = c.takes;
-  begins = λ told. subst (λ (t : State). IsFront (told ++ c.front) t.told) (same told) (c.begins told);
-}
-
--- nothing was done
-pub writes_nothing : (f : State → State) (was : List ℕ → State) (old : Option (List ℕ)) → ((told : List ℕ) → f (was told) ≡ was told)
-    → Writes f was was old old
-writes_nothing f was old same = record { lines = []; takes = takes_none old; same = λ told. ap was (append-nil told) ∙ sym (same told) }
-
--- nothing was written
-pub cut_nothing : (f : State → State) (was : List ℕ → State) (old : Option (List ℕ)) → ((told : List ℕ) → (was told).told ≡ told)
-    → ((s : State) → IsFront s.told (f s).told) → CutsShort f was old old
-cut_nothing f was old told_is begins = record {
-  front = [];
-  takes = takes_none old;
-  begins = λ told. subst (λ l. IsFront l (f (was told)).told) (told_is told ∙ sym (append-nil told)) (begins (was told));
-}
 
 -- Lemmas about a text
 
@@ -265,29 +240,42 @@ text_leads limits o n was begun after first last told begins front turned nest =
     ∙ ap (λ (s : State). over n (turns (in_text first s)) (was told).nesting) begins
     ∙ ap (λ (l : TextReader). over n (turns (in_text l (text_begun (was told)))) (was told).nesting) front
 
-pub text_writes : (limits : Limits) (o : Choices) (n : ℕ) (was after final : List ℕ → State) (old new : Option (List ℕ)) (lines : List ℕ)
-    → ((told : List ℕ) → record (told_out (after told)) { is_over = true; passed = n } ≡ text_read limits o n (was told))
-    → ((told : List ℕ) → told_out (after told) ≡ emptied (after (told ++ lines)))
-    → ((told : List ℕ) → final told ≡ record (emptied (after told)) { is_over = true; passed = n })
-    → Takes old new lines → Writes (text_read limits o n) was final old new
-text_writes limits o n was after final old new lines leads out last takes = record {
-  lines = lines;
-  takes = takes;
-  same = λ told. last (told ++ lines) ∙ ap (λ (s : State). record s { is_over = true; passed = n }) (sym (out told)) ∙ leads told;
-}
+-- Lemmas about calls on texts in memory
 
-pub text_cut : (limits : Limits) (o : Choices) (n : ℕ) (was after : List ℕ → State) (old new : Option (List ℕ)) (lines front rest : List ℕ)
-    → ((told : List ℕ) → record (told_out (after told)) { is_over = true; passed = n } ≡ text_read limits o n (was told))
-    → ((told : List ℕ) → (told_out (after told)).told ≡ told ++ lines) → lines ≡ front ++ rest
-    → Takes old new front → CutsShort (text_read limits o n) was old new
-text_cut limits o n was after old new lines front rest leads out cut takes = record {
-  front = front;
-  takes = takes;
-  begins = λ told. record {
-    rest = rest;
-    is_cut = ap (λ (s : State). s.told) (sym (leads told)) ∙ out told ∙ ap (λ l. told ++ l) cut ∙ sym (append_assoc told front rest);
-  };
-}
+-- Nothing was written for want of memory.
+pub supplies_none : {M B : Type 0} {m : Sink M} {step : Choices → State → State} {old : M} {x z : Session B} {fault : Option Fault}
+    → Some Fault.Memory ≡ fault → z.open_files ≡ x.open_files → z.setup ≡ x.setup
+    → ((o : Choices) (s : State) → IsFront s.told (step o s).told) → Supplies m step old old x z fault
+supplies_none {m = m} {step = step} {old = old} {x = x} {z = z} e files setup begins =
+    subst (λ (fault : Option Fault). Supplies m step old old x z fault) e (record {
+      made = λ sources start now. tt;
+      broken = λ sources start now. cuts_nothing (m.taken old) (λ told. refl) (begins (chosen x.setup));
+      files = files;
+      setup = setup;
+      cause = tt;
+      wrote = wrote_none (Some Fault.Memory);
+    })
+
+-- The fault may be given by an equal one.
+pub supplies_as : {M B : Type 0} {m : Sink M} {step : Choices → State → State} {old new : M} {x z : Session B} {fault other : Option Fault}
+    → fault ≡ other → Supplies m step old new x z fault → Supplies m step old new x z other
+supplies_as {m = m} {step = step} {old = old} {new = new} {x = x} {z = z} e p =
+    subst (λ (fault : Option Fault). Supplies m step old new x z fault) e p
+
+-- a call by another name of its step, and by an equal fault
+pub supplies_so : {M B : Type 0} {m : Sink M} {f g : Choices → State → State} {old new : M} {x z : Session B} {fault other : Option Fault}
+    → fault ≡ other → Supplies m f old new x z fault
+    → ((sources : Sources) (start now : Openings) (told : List ℕ) → f (chosen x.setup) (state sources start now x told)
+    ≡ g (chosen x.setup) (state sources start now x told)) → Supplies m g old new x z other
+supplies_so {m = m} {g = g} {old = old} {new = new} {x = x} {z = z} {fault = fault} e p same =
+    supplies_as e (record {
+      made = λ sources start now. none_then fault (p.made sources start now) (λ w. writes_as (same sources start now) w);
+      broken = λ sources start now. IfSome_then fault (p.broken sources start now) (λ e w. cuts_as (same sources start now) w);
+      files = p.files;
+      setup = p.setup;
+      cause = p.cause;
+      wrote = p.wrote;
+    })
 
 -- Lemmas about one routine behind another
 
@@ -297,42 +285,41 @@ pub record LeadsOn (step : State → State) (was now : List ℕ → State) (old 
   pub takes : Takes old new lines
   pub same : (told : List ℕ) → step (now (told ++ lines)) ≡ step (was told)
 
-pub leads_none : (step : State → State) (was : List ℕ → State) (old : Option (List ℕ)) → LeadsOn step was was old old
-leads_none step was old =
+pub leads_none : {step : State → State} {was : List ℕ → State} (old : Option (List ℕ)) → LeadsOn step was was old old
+leads_none {step = step} {was = was} old =
     record { lines = []; takes = takes_none old; same = λ told. ap (λ l. step (was l)) (append-nil told) }
 
-pub leads_then : (limits : Limits) (o : Choices) (was mid now : List ℕ → State) (old between new : Option (List ℕ))
-    → LeadsOn (supplied limits o) was mid old between → Writes (next_supplied limits o) mid now between new
-    → LeadsOn (supplied limits o) was now old new
-leads_then limits o was mid now old between new a b = record {
-  lines = a.lines ++ b.lines;
-  takes = takes_then old between new a.lines b.lines a.takes b.takes;
-  same = λ told.
-      ap (λ l. supplied limits o (now l)) (sym (append_assoc told a.lines b.lines))
-      ∙ ap (supplied limits o) (b.same (told ++ a.lines)) ∙ supplied_more limits o (mid (told ++ a.lines)) ∙ a.same told;
-}
+module _ (limits : Limits) (o : Choices) {was mid : List ℕ → State} {old between : Option (List ℕ)} where
+  pub leads_then : {now : List ℕ → State} {new : Option (List ℕ)} → LeadsOn (supplied limits o) was mid old between
+      → Writes (next_supplied limits o) mid now between new
+      → LeadsOn (supplied limits o) was now old new
+  leads_then {now = now} {new = new} a b = record {
+    lines = a.lines ++ b.lines;
+    takes = takes_then old between new a.lines b.lines a.takes b.takes;
+    same = λ told.
+        ap (λ l. supplied limits o (now l)) (sym (append_assoc told a.lines b.lines))
+        ∙ ap (supplied limits o) (b.same (told ++ a.lines)) ∙ supplied_more limits o (mid (told ++ a.lines)) ∙ a.same told;
+  }
 
-pub leads_all : (limits : Limits) (o : Choices) (was now : List ℕ → State) (old new : Option (List ℕ))
-    → ((told : List ℕ) → next_in (now told) ≡ None) → LeadsOn (supplied limits o) was now old new
-    → Writes (supplied limits o) was now old new
-leads_all limits o was now old new none a = record {
-  lines = a.lines;
-  takes = a.takes;
-  same = λ told. sym (supplied_none limits o (now (told ++ a.lines)) (none (told ++ a.lines))) ∙ a.same told;
-}
+  pub leads_all : ((told : List ℕ) → next_in (mid told) ≡ None) → LeadsOn (supplied limits o) was mid old between
+      → Writes (supplied limits o) was mid old between
+  leads_all none a = record {
+    lines = a.lines;
+    takes = a.takes;
+    same = λ told. sym (supplied_none limits o (mid (told ++ a.lines)) (none (told ++ a.lines))) ∙ a.same told;
+  }
 
-pub leads_cut : (limits : Limits) (o : Choices) (was mid : List ℕ → State) (old between new : Option (List ℕ))
-    → LeadsOn (supplied limits o) was mid old between → CutsShort (next_supplied limits o) mid between new
-    → CutsShort (supplied limits o) was old new
-leads_cut limits o was mid old between new a b = record {
-  front = a.lines ++ b.front;
-  takes = takes_then old between new a.lines b.front a.takes b.takes;
-  begins = λ told.
-      let here = mid (told ++ a.lines) in
-      let next = next_supplied limits o here in
-      let whole : supplied limits o next ≡ supplied limits o (was told) = supplied_more limits o here ∙ a.same told in
-      subst (λ l. IsFront l (supplied limits o (was told)).told) (append_assoc told a.lines b.front)
-      (subst (λ (t : State). IsFront ((told ++ a.lines) ++ b.front) t.told) whole
-      (front_then ((told ++ a.lines) ++ b.front) next.told (supplied limits o next).told (b.begins (told ++ a.lines))
-      (supplied_begins limits o next)));
-}
+  pub leads_cut : {new : Option (List ℕ)} → LeadsOn (supplied limits o) was mid old between
+      → CutsShort (next_supplied limits o) mid between new
+      → CutsShort (supplied limits o) was old new
+  leads_cut {new = new} a b = record {
+    front = a.lines ++ b.front;
+    takes = takes_then old between new a.lines b.front a.takes b.takes;
+    begins = λ told.
+        let here = mid (told ++ a.lines) in
+        let next = next_supplied limits o here in
+        let whole : supplied limits o next ≡ supplied limits o (was told) = supplied_more limits o here ∙ a.same told in
+        subst (λ l. IsFront l (supplied limits o (was told)).told) (append_assoc told a.lines b.front)
+        (subst (λ (t : State). IsFront ((told ++ a.lines) ++ b.front) t.told) whole
+        (front_then (b.begins (told ++ a.lines)) (supplied_begins limits o next)));
+  }

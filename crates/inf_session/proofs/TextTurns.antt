@@ -1,6 +1,6 @@
 -- The turns of the tokens of a text in memory, one after another.
-use Rattle.std.proofs.Common.{Result, ◌≡◌, ℕ, suc, zero, ◌-◌, ◌<◌, ◌≤◌, List, [], ◌∷◌, length, length-take, Bool, true, false, Option, Some}
-use Rattle.std.proofs.Common.{None, OnOk, cond, refl, sym, ap, subst, ◌∙◌, arith}
+use Rattle.std.proofs.Common.{◌≡◌, ℕ, suc, zero, ◌-◌, ◌<◌, ◌≤◌, List, [], ◌∷◌, length, length-take, Bool, true, false, Option, Some}
+use Rattle.std.proofs.Common.{None, cond, refl, sym, ap, subst, ◌∙◌, arith}
 use Rattle.std.proofs.lemmas.Bool.{cond_both, le-leb}
 use Rattle.inf_characters.specs.declared.characters.CharSet.{CharSet}
 use Rattle.inf_settings.specs.Bounds.{Limits}
@@ -10,7 +10,7 @@ use Rattle.inf_scanner.specs.{declared.tokens.BadToken.BadToken, declared.tokens
 use Rattle.inf_scanner.proofs.{SpellingLaws.next_spelled, TokenLaws.runs_are_short}
 use Rattle.inf_sources.specs.{Inclusions.Nesting, Quoted.is_quoted_kind}
 use Rattle.inf_text_lexer.specs.TextReaders.{TextReader, behind, next_of, token_of as text_token}
-use Rattle.inf_unit.specs.{Atoms.is_short, Tokens.SourceToken}
+use Rattle.inf_unit.specs.{Atoms.is_short}
 use Rattle.inf_compilation.specs.Context.{Context}
 use Rattle.inf_reader.specs.Handing.{is_between}
 use Rattle.inf_session.specs.{Choices.Choices, Taking.Taken, Taking.token_at, Taking.token_taken, Veneer.in_text, Veneer.text_cursor}
@@ -20,7 +20,7 @@ use Rattle.inf_session.proofs.Taking.{step_is, token_is, with_taken}
 
 -- Lemmas about the bytes that are kept of a token
 
-short_by : (k : TokenKind) (bytes : List ℕ) → (is_run k ≡ true → length bytes ≤ 32) → is_short k bytes ≡ true
+pub short_by : (k : TokenKind) (bytes : List ℕ) → (is_run k ≡ true → length bytes ≤ 32) → is_short k bytes ≡ true
 short_by TokenKind.Name bytes few = le-leb (length bytes) 32 (few refl)
 short_by (TokenKind.Number n) bytes few = refl
 short_by TokenKind.Text bytes few = refl

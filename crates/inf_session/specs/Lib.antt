@@ -6,3 +6,4 @@ pub mod Uses
 pub mod Standing
 pub mod Leading
 pub mod Weights
+pub mod Promises

@@ -1,7 +1,7 @@
 -- The state for which the code's session stands, with a reader that keeps to its sources.
 use Rattle.std.specs.{String.string_capacity, declared.alloc.Global.Global}
 use Rattle.std.specs.Prelude.{◌≡◌, ℕ, ◌≤◌, List, Bool, false, ◌&&◌, ◌||◌, if◌then◌else◌, ◌∷◌, Option, is_none, length, String}
-use Rattle.inf_conditionals.specs.Judging.{is_none_pending, may_part}
+use Rattle.inf_conditionals.specs.{Judging.is_none_pending, Judging.may_part, Open.no_conditions}
 use Rattle.inf_reader.specs.{Handing.is_between, Reading.has_ended_at, Standing.reading, Standing.standing}
 use Rattle.inf_devices.specs.Files.{Openings, Sources}
 use Rattle.inf_lexer.specs.Names.{innermost_name}
@@ -9,7 +9,8 @@ use Rattle.inf_sources.specs.Open.{Open, nesting}
 use Rattle.inf_settings.specs.{declared.setting.Setting.Setting, declared.settings.Settings.Settings}
 use Rattle.inf_settings.specs.Settings.{all_settings, number_of}
 use Rattle.inf_compilation.specs.Works.{work as work_of}
-use Rattle.inf_session.specs.{Choices.chosen, Choices.most_quoted, Session.State, Uses.AreKept, Uses.all_used, Veneer.next_text}
+use Rattle.inf_session.specs.{Choices.Choices, Choices.chosen, Choices.most_quoted, Session.State, Session.begun_with, Uses.AreKept}
+use Rattle.inf_session.specs.{Uses.all_used, Veneer.next_text}
 use Rattle.inf_session.specs.{declared.session.Session.Session, declared.session.Step.Step}
 
 -- The state for a session, where the openings were `start` before the main source was opened, and are `now` now; the messages
@@ -25,6 +26,15 @@ state sources start now s told = record {
   quoted = s.quoted;
   passed = s.passed;
 }
+
+-- Nothing of a source was read: reading begins behind the head, and goes on; no conditional, no quoted token and no supplied routine was
+-- read.
+pub record Begins {B : Type 0} (o : Choices) (s : Session B) : Type 0 where
+  pub begun : standing s.progress ≡ begun_with o s.open_files.nest.names
+  pub going : s.is_over ≡ false
+  pub conditionals : s.conditionals ≡ no_conditions
+  pub quoted : s.quoted ≡ 0
+  pub passed : s.passed ≡ 0
 
 -- whether no more of the source is read
 abbrev pub ended : {B : Type 0} → Session B → Bool

@@ -1,21 +1,19 @@
 //! The reading of a main source and of the files that it includes.
-ghost use Rattle.std.specs.Prelude.{◌≡◌, ℕ, ◌<◌, ◌≤◌, ◌⊎◌, List, Ok, OnOk, OnErr, IfErr, IfOk, IsErrOf, IsTrue, None, false, true, length};
+ghost use Rattle.std.specs.Prelude.{◌≡◌, ℕ, ◌<◌, ◌≤◌, ◌⊎◌, List, IfErr, IfOk, None, OnErr, OnOk, false, length, true};
 ghost use Rattle.inf_devices.specs.Files.{Openings, Rose, Sources};
-ghost use Rattle.inf_reader.specs.{Reading.has_ended_at, Reading.is_mode_ended, Standing.standing};
 ghost use Rattle.inf_lexer.specs.Names.{can_name};
-ghost use Rattle.inf_sources.specs.{Calls.Honestly, Calls.IsUnreadable, Calls.StaysFit, Calls.Went, Open.nesting, Open.opened_since};
+ghost use Rattle.inf_reader.specs.Reading.{is_mode_ended};
+ghost use Rattle.inf_sources.specs.Calls.{StaysFit};
 ghost use Rattle.inf_session.specs.{Choices.chosen, Choices.most_quoted, Weights.GoesOn, Weights.room, Weights.weight};
-ghost use Rattle.inf_session.specs.Leading.{CutsShort, GivenUp, NotTried, OpensAll, OpensWithin, StopsFor, StopsAtInclusion, StopsInToken};
-ghost use Rattle.inf_session.specs.Leading.{Writes};
-ghost use Rattle.inf_session.specs.Session.{begun_with, followed, carried_out, included, left, part, rested, run, stepped, turn};
-ghost use Rattle.inf_session.specs.Standing.{AreWithin, HasRoom, IsBounded, IsSet, LaterWithin, came_to, ended, is_fatal, parted, resting};
-ghost use Rattle.inf_session.specs.Standing.{state, used_by};
-ghost use Rattle.inf_ending.specs.Faults.{Caused, HaltHidesNone, HaltTellsEachRead, HidesNoFailure, IfRead, TellsEachRead, fault_of};
-ghost use Rattle.inf_ending.specs.Delivered.{Appends, Delivers, EndsCleanOf, TakesFront, story_in};
-ghost use Rattle.inf_ending.specs.Ending.{finished};
+ghost use Rattle.inf_session.specs.Promises.{MakesPart, MakesTurn, MakesTurns, PartOfTurn, Stepped, Wrote, at_inclusion, fault_in, halt_in};
+ghost use Rattle.inf_session.specs.Promises.{in_inclusion, in_token, nowhere};
+ghost use Rattle.inf_session.specs.Session.{carried_out, followed, included, left, rested, stepped};
+ghost use Rattle.inf_session.specs.Standing.{AreWithin, Begins, HasRoom, IsBounded, IsSet, LaterWithin, came_to, ended, is_fatal, parted};
+ghost use Rattle.inf_session.specs.Standing.{resting, state, used_by};
+ghost use Rattle.inf_ending.specs.{Delivered.Delivers, Delivered.EndsCleanOf, Delivered.TakesFront, Delivered.story_in, Ending.finished};
+ghost use Rattle.inf_ending.specs.Faults.{Caused, HidesNoFailure, IfRead, fault_of};
 ghost use Rattle.inf_settings.specs.{Bounds.AreSet, Settings.all_settings};
 ghost use Rattle.inf_compilation.specs.Works.{work as work_of};
-ghost use Rattle.inf_conditionals.specs.Open.{no_conditions};
 
 use crate::rooms::{give_room, make_room};
 use crate::setup::Setup;
@@ -76,13 +74,8 @@ impl<'a, B: Bounds> Session<'a, B> {
     ) -> Result<Session<'a, B>, OpenFiles>
         requires { AreSet B.most setup.settings.now }
         ensures files { IfOk result (λ session. session.open_files ≡ open_files) }
-        ensures standing { IfOk result (λ session. standing session.progress ≡ begun_with (chosen setup.entry)
-            session.open_files.nest.names) }
-        ensures going { IfOk result (λ session. session.is_over ≡ false) }
-        ensures conditionals { IfOk result (λ session. session.conditionals ≡ no_conditions) }
-        ensures quoted { IfOk result (λ session. session.quoted ≡ 0) }
-        ensures passed { IfOk result (λ session. session.passed ≡ 0) }
         ensures setup { IfOk result (λ session. session.setup ≡ setup.entry) }
+        ensures begins { IfOk result (λ session. Begins (chosen setup.entry) session) }
         ensures bounded { IfOk result (λ session. IsBounded session) }
         ensures back { IfErr result (λ files. files ≡ open_files) }
     {
@@ -115,38 +108,11 @@ impl<'a, B: Bounds> Session<'a, B> {
         requires is_open { length self.old.open_files.outer < F.depth files.old }
         requires goes { self.old.open_files.lexer.has_failed ≡ false }
         requires set { IsSet self.old }
-
-        // The clauses below hold with an honest reader.
-        ensures read { Honestly F.Files files.old self.old.open_files (λ start.
-            OnOk result ((turns : ℕ) × Writes (run B.most (F.sources files.old) (chosen self.old.setup) turns)
-            (state (F.sources files.old) start (F.openings files.old) self.old)
-            (state (F.sources files.old) start (F.openings files.new) self.new)
-            (M.taken messages.old) (M.taken messages.new))) }
-        ensures cut { Honestly F.Files files.old self.old.open_files (λ start.
-            OnErr result ((turns : ℕ) × CutsShort (run B.most (F.sources files.old) (chosen self.old.setup) turns)
-            (state (F.sources files.old) start (F.openings files.old) self.old) (M.taken messages.old) (M.taken messages.new))) }
-        ensures opened { Honestly F.Files files.old self.old.open_files (λ start.
-            OnErr result ((turns : ℕ) × OpensAll (run B.most (F.sources files.old) (chosen self.old.setup) turns)
-            (state (F.sources files.old) start (F.openings files.old) self.old) (opened_since start (F.openings files.new)))) }
-
-        // The clauses below hold with any reader.
-        ensures went { Went F.Files files.old files.new self.old.open_files self.new.open_files }
+        ensures called { MakesTurns F.Files M.Sink B.most files.old files.new messages.old messages.new self.old self.new
+            (fault_in result) }
+        ensures wrote { Wrote M.Sink messages.old messages.new (fault_in result) }
         ensures ended { OnOk result (ended self.new ≡ true) }
         ensures is_open { length self.new.open_files.outer < F.depth files.new }
-        ensures fault { IfErr result (λ fault. Caused fault (λ name. IsUnreadable F.Files files.old files.new self.old.open_files
-            self.new.open_files)
-            (Rose (M.failures messages.old) (M.failures messages.new))) }
-        ensures unread { Honestly F.Files files.old self.old.open_files (λ start.
-            IfErr result (λ fault. IfRead fault (λ name. GivenUp B.most (Rose (F.faults files.old) (F.faults files.new))
-            (F.sources files.old)
-            (chosen self.old.setup)
-            (state (F.sources files.old) start (F.openings files.old) self.old) (M.taken messages.old) (M.taken messages.new)
-            start (F.openings files.new) self.new.open_files name))) }
-        ensures seen { TellsEachRead result (F.faults files.old) (F.faults files.new) }
-        ensures fits { OnOk result (StaysFit F.Files files.old files.new self.old.open_files) }
-        ensures setup { self.new.setup ≡ self.old.setup }
-        ensures wrote { Appends M.Sink messages.old messages.new
-            × HidesNoFailure result (M.failures messages.old) (M.failures messages.new) }
     {
         while !self.has_ended() {
             self.read_part(files, messages)?;
@@ -164,50 +130,10 @@ impl<'a, B: Bounds> Session<'a, B> {
         requires is_open { length self.old.open_files.outer < F.depth files.old }
         requires goes { self.old.open_files.lexer.has_failed ≡ false }
         requires set { IsSet self.old }
-
-        // The clauses below hold with an honest reader.
-        ensures part { Honestly F.Files files.old self.old.open_files (λ start.
-            OnOk result ((turns : ℕ) × (Writes (part B.most (F.sources files.old) (chosen self.old.setup) turns)
-            (state (F.sources files.old) start (F.openings files.old) self.old)
-            (state (F.sources files.old) start (F.openings files.new) self.new)
-            (M.taken messages.old) (M.taken messages.new)
-            × Writes (run B.most (F.sources files.old) (chosen self.old.setup) turns)
-            (state (F.sources files.old) start (F.openings files.old) self.old)
-            (state (F.sources files.old) start (F.openings files.new) self.new)
-            (M.taken messages.old) (M.taken messages.new)))) }
-        ensures cut { Honestly F.Files files.old self.old.open_files (λ start.
-            OnErr result ((turns : ℕ) × CutsShort (run B.most (F.sources files.old) (chosen self.old.setup) turns)
-            (state (F.sources files.old) start (F.openings files.old) self.old) (M.taken messages.old) (M.taken messages.new))) }
-        ensures opened { Honestly F.Files files.old self.old.open_files (λ start.
-            OnErr result ((turns : ℕ) × OpensAll (run B.most (F.sources files.old) (chosen self.old.setup) turns)
-            (state (F.sources files.old) start (F.openings files.old) self.old) (opened_since start (F.openings files.new)))) }
-
-        // The clauses below hold with any reader.
-        ensures went { Went F.Files files.old files.new self.old.open_files self.new.open_files }
-        ensures parted { OnOk result (parted self.new ≡ true) }
-        ensures came { IfOk result (λ step. step ≡ came_to (ended self.old) self.new) }
-        ensures ends { IfOk result (λ step. (step ≡ Step.More → ⊥) → ended self.new ≡ true) }
-        ensures again { ended self.old ≡ true → (result ≡ Ok (came_to true self.old))
-            × ((self.new ≡ self.old) × ((files.new ≡ files.old) × (messages.new ≡ messages.old))) }
-        ensures bounded { IsBounded self.old → OnOk result (IsBounded self.new) }
-        ensures falls { OnOk result ((ended self.new ≡ true) ⊎ (weight self.new.open_files < weight self.old.open_files)) }
-        ensures goes { OnOk result (self.new.open_files.lexer.has_failed ≡ false) }
-        ensures set { IsSet self.new }
-        ensures is_open { length self.new.open_files.outer < F.depth files.new }
-        ensures fault { IfErr result (λ fault. Caused fault (λ name. IsUnreadable F.Files files.old files.new self.old.open_files
-            self.new.open_files)
-            (Rose (M.failures messages.old) (M.failures messages.new))) }
-        ensures unread { Honestly F.Files files.old self.old.open_files (λ start.
-            IfErr result (λ fault. IfRead fault (λ name. GivenUp B.most (Rose (F.faults files.old) (F.faults files.new))
-            (F.sources files.old)
-            (chosen self.old.setup)
-            (state (F.sources files.old) start (F.openings files.old) self.old) (M.taken messages.old) (M.taken messages.new)
-            start (F.openings files.new) self.new.open_files name))) }
-        ensures seen { TellsEachRead result (F.faults files.old) (F.faults files.new) }
-        ensures fits { OnOk result (StaysFit F.Files files.old files.new self.old.open_files) }
-        ensures setup { self.new.setup ≡ self.old.setup }
-        ensures wrote { Appends M.Sink messages.old messages.new
-            × HidesNoFailure result (M.failures messages.old) (M.failures messages.new) }
+        ensures called { MakesPart F.Files M.Sink B.most files.old files.new messages.old messages.new self.old self.new
+            (fault_in result) }
+        ensures wrote { Wrote M.Sink messages.old messages.new (fault_in result) }
+        ensures stepped { Stepped ended (λ s. weight s.open_files) files.old files.new messages.old messages.new self.old self.new result }
     {
         if self.has_ended() {
             return Ok(self.came_to(true));
@@ -332,38 +258,13 @@ impl<'a, B: Bounds> Session<'a, B> {
         requires goes { self.old.open_files.lexer.has_failed ≡ false }
         requires set { IsSet self.old }
         requires room { HasRoom self.old.room self.old.open_files }
-        ensures turned { Honestly F.Files files.old self.old.open_files (λ start.
-            OnOk result (Writes (turn B.most (F.sources files.old) (chosen self.old.setup))
-            (state (F.sources files.old) start (F.openings files.old) self.old)
-            (state (F.sources files.old) start (F.openings files.new) self.new)
-            (M.taken messages.old) (M.taken messages.new))) }
-        ensures cut { Honestly F.Files files.old self.old.open_files (λ start.
-            OnErr result (CutsShort (turn B.most (F.sources files.old) (chosen self.old.setup))
-            (state (F.sources files.old) start (F.openings files.old) self.old) (M.taken messages.old) (M.taken messages.new))) }
-        ensures opened { Honestly F.Files files.old self.old.open_files (λ start.
-            OnErr result (OpensWithin (turn B.most (F.sources files.old) (chosen self.old.setup))
-            (state (F.sources files.old) start (F.openings files.old) self.old) (opened_since start (F.openings files.new)))) }
-        ensures went { Went F.Files files.old files.new self.old.open_files self.new.open_files }
+        ensures called { MakesTurn F.Files M.Sink B.most files.old files.new messages.old messages.new self.old self.new
+            (halt_in result lost.new) }
+        ensures wrote { Wrote M.Sink messages.old messages.new (halt_in result lost.new) }
         ensures falls { OnOk result ((ended self.new ≡ true) ⊎ (weight self.new.open_files < weight self.old.open_files)) }
-        ensures is_open { length self.new.open_files.outer < F.depth files.new }
-        ensures goes { OnOk result (self.new.open_files.lexer.has_failed ≡ false) }
-        ensures setup { self.new.setup ≡ self.old.setup }
-        ensures set { IsSet self.new }
         ensures longest { let most = most_quoted (chosen self.old.setup) in self.old.quoted ≤ most → OnOk result (self.new.quoted ≤ most) }
-        ensures fault { IfErr result (λ halt. Caused (fault_of halt lost.new)
-            (λ name. IsUnreadable F.Files files.old files.new self.old.open_files self.new.open_files)
-            (Rose (M.failures messages.old) (M.failures messages.new))) }
         ensures unread { IfErr result (λ halt. IfRead (fault_of halt lost.new) (λ name. M.taken messages.new ≡ M.taken messages.old)) }
-        ensures stops { Honestly F.Files files.old self.old.open_files (λ start.
-            IfErr result (λ halt. IfRead (fault_of halt lost.new) (λ name. (told : List ℕ) →
-            StopsFor B.most (Rose (F.faults files.old) (F.faults files.new)) (F.sources files.old) (chosen self.old.setup)
-            (state (F.sources files.old) start (F.openings files.old) self.old told) start (F.openings files.new) self.new.open_files
-            name))) }
         ensures room { OnOk result (HasRoom self.new.room self.new.open_files) }
-        ensures seen { HaltTellsEachRead result lost.new (F.faults files.old) (F.faults files.new) }
-        ensures fits { OnOk result (StaysFit F.Files files.old files.new self.old.open_files) }
-        ensures wrote { Appends M.Sink messages.old messages.new
-            × HaltHidesNone result lost.new (M.failures messages.old) (M.failures messages.new) }
     {
         self.take_token(files, lost)?;
         self.follow(files, lost)?;
@@ -376,29 +277,15 @@ impl<'a, B: Bounds> Session<'a, B> {
         requires is_open { length self.old.open_files.outer < F.depth files.old }
         requires goes { self.old.open_files.lexer.has_failed ≡ false }
         requires room { HasRoom self.old.room self.old.open_files }
-        ensures stepped { Honestly F.Files files.old self.old.open_files (λ start.
-            OnOk result ((told : List ℕ) → state (F.sources files.old) start (F.openings files.new) self.new told
-            ≡ stepped B.most (chosen self.old.setup) (state (F.sources files.old) start (F.openings files.old) self.old told))) }
-        ensures opened { Honestly F.Files files.old self.old.open_files (λ start.
-            opened_since start (F.openings files.new) ≡ opened_since start (F.openings files.old)) }
-        ensures went { Went F.Files files.old files.new self.old.open_files self.new.open_files }
+        ensures called { PartOfTurn F.Files (λ sources. stepped B.most) in_token files.old files.new self.old self.new
+            (halt_in result lost.new) }
         ensures moves { OnOk result ((is_mode_ended self.new.progress.reader.mode ≡ true) ⊎
             (room self.new.open_files.lexer < room self.old.open_files.lexer)) }
-        ensures goes { OnOk result (self.new.open_files.lexer.has_failed ≡ false) }
-        ensures same { (self.new.open_files.nest ≡ self.old.open_files.nest) × (self.new.open_files.outer ≡ self.old.open_files.outer) }
-        ensures setup { (self.new.setup ≡ self.old.setup) × (self.new.is_over ≡ self.old.is_over) }
+        ensures same { (self.new.open_files.nest ≡ self.old.open_files.nest)
+            × ((self.new.open_files.outer ≡ self.old.open_files.outer) × (self.new.is_over ≡ self.old.is_over)) }
         ensures few { OnOk result (self.new.open_files.lexer.window.given ≤ 16777216) }
         ensures longest { let most = self.old.open_files.nest.limit in self.old.quoted ≤ most → OnOk result (self.new.quoted ≤ most) }
-        ensures stops { Honestly F.Files files.old self.old.open_files (λ start.
-            IfErr result (λ halt. IfRead (fault_of halt lost.new) (λ name. (told : List ℕ) →
-            StopsInToken (Rose (F.faults files.old) (F.faults files.new)) (F.sources files.old)
-            (state (F.sources files.old) start (F.openings files.old) self.old told) start (F.openings files.new) self.new.open_files
-            name))) }
-        ensures fault { IfErr result (λ halt. Caused (fault_of halt lost.new)
-            (λ name. IsUnreadable F.Files files.old files.new self.old.open_files self.new.open_files) ⊥) }
         ensures room { OnOk result (HasRoom self.new.room self.new.open_files) }
-        ensures seen { HaltTellsEachRead result lost.new (F.faults files.old) (F.faults files.new) }
-        ensures fits { OnOk result (StaysFit F.Files files.old files.new self.old.open_files) }
     {
         let token = match self.open_files.next(files) {
             Ok(token) => token,
@@ -431,29 +318,11 @@ impl<'a, B: Bounds> Session<'a, B> {
         requires goes { self.old.open_files.lexer.has_failed ≡ false }
         requires set { IsSet self.old }
         requires room { HasRoom self.old.room self.old.open_files }
-        ensures followed { Honestly F.Files files.old self.old.open_files (λ start.
-            OnOk result ((told : List ℕ) → state (F.sources files.old) start (F.openings files.new) self.new told
-            ≡ followed (F.sources files.old) (chosen self.old.setup)
-            (state (F.sources files.old) start (F.openings files.old) self.old told))) }
-        ensures opened { Honestly F.Files files.old self.old.open_files (λ start.
-            OnErr result (OpensWithin (followed (F.sources files.old) (chosen self.old.setup))
-            (state (F.sources files.old) start (F.openings files.old) self.old) (opened_since start (F.openings files.new)))) }
-        ensures went { Went F.Files files.old files.new self.old.open_files self.new.open_files }
+        ensures called { PartOfTurn F.Files followed at_inclusion files.old files.new self.old self.new (halt_in result lost.new) }
         ensures goes_on { OnOk result ((ended self.new ≡ true) ⊎ GoesOn (is_mode_ended self.old.progress.reader.mode) self.old.open_files
             self.new.open_files) }
-        ensures goes { OnOk result (self.new.open_files.lexer.has_failed ≡ false) }
-        ensures setup { self.new.setup ≡ self.old.setup }
-        ensures set { IsSet self.new }
         ensures quoted { OnOk result (self.new.quoted ≡ self.old.quoted) }
-        ensures fault { IfErr result (λ halt. Caused (fault_of halt lost.new)
-            (λ name. IsUnreadable F.Files files.old files.new self.old.open_files self.new.open_files) ⊥) }
-        ensures stops { Honestly F.Files files.old self.old.open_files (λ start.
-            IfErr result (λ halt. IfRead (fault_of halt lost.new) (λ name. (told : List ℕ) →
-            StopsAtInclusion (Rose (F.faults files.old) (F.faults files.new)) (F.sources files.old) (chosen self.old.setup)
-            (state (F.sources files.old) start (F.openings files.old) self.old told) (opened_since start (F.openings files.new)) name))) }
         ensures room { OnOk result (HasRoom self.new.room self.new.open_files) }
-        ensures seen { HaltTellsEachRead result lost.new (F.faults files.old) (F.faults files.new) }
-        ensures fits { OnOk result (StaysFit F.Files files.old files.new self.old.open_files) }
     {
         self.carry_out(files, lost)?;
         self.rest()?;
@@ -467,29 +336,11 @@ impl<'a, B: Bounds> Session<'a, B> {
         requires goes { self.old.open_files.lexer.has_failed ≡ false }
         requires set { IsSet self.old }
         requires room { HasRoom self.old.room self.old.open_files }
-        ensures carried_out { Honestly F.Files files.old self.old.open_files (λ start.
-            OnOk result ((told : List ℕ) → state (F.sources files.old) start (F.openings files.new) self.new told
-            ≡ carried_out (F.sources files.old) (chosen self.old.setup)
-            (state (F.sources files.old) start (F.openings files.old) self.old told))) }
-        ensures opened { Honestly F.Files files.old self.old.open_files (λ start.
-            OnErr result (OpensWithin (carried_out (F.sources files.old) (chosen self.old.setup))
-            (state (F.sources files.old) start (F.openings files.old) self.old) (opened_since start (F.openings files.new)))) }
-        ensures went { Went F.Files files.old files.new self.old.open_files self.new.open_files }
+        ensures called { PartOfTurn F.Files carried_out at_inclusion files.old files.new self.old self.new (halt_in result lost.new) }
         ensures goes_on { OnOk result ((ended self.new ≡ true) ⊎ GoesOn (is_mode_ended self.old.progress.reader.mode) self.old.open_files
             self.new.open_files) }
-        ensures goes { OnOk result (self.new.open_files.lexer.has_failed ≡ false) }
-        ensures setup { self.new.setup ≡ self.old.setup }
-        ensures set { IsSet self.new }
         ensures quoted { OnOk result (self.new.quoted ≡ self.old.quoted) }
-        ensures fault { IfErr result (λ halt. Caused (fault_of halt lost.new)
-            (λ name. IsUnreadable F.Files files.old files.new self.old.open_files self.new.open_files) ⊥) }
-        ensures stops { Honestly F.Files files.old self.old.open_files (λ start.
-            IfErr result (λ halt. IfRead (fault_of halt lost.new) (λ name. (told : List ℕ) →
-            StopsAtInclusion (Rose (F.faults files.old) (F.faults files.new)) (F.sources files.old) (chosen self.old.setup)
-            (state (F.sources files.old) start (F.openings files.old) self.old told) (opened_since start (F.openings files.new)) name))) }
         ensures room { OnOk result (HasRoom self.new.room self.new.open_files) }
-        ensures seen { HaltTellsEachRead result lost.new (F.faults files.old) (F.faults files.new) }
-        ensures fits { OnOk result (StaysFit F.Files files.old files.new self.old.open_files) }
     {
         if self.progress.work.report.is_over() {
             return Ok(());
@@ -547,29 +398,11 @@ impl<'a, B: Bounds> Session<'a, B> {
         requires goes { self.old.open_files.lexer.has_failed ≡ false }
         requires set { IsSet self.old }
         requires room { HasRoom self.old.room self.old.open_files }
-        ensures included { Honestly F.Files files.old self.old.open_files (λ start.
-            OnOk result ((told : List ℕ) → state (F.sources files.old) start (F.openings files.new) self.new told
-            ≡ included (F.sources files.old) (chosen self.old.setup) unit text.now
-            (state (F.sources files.old) start (F.openings files.old) self.old told))) }
-        ensures opened { Honestly F.Files files.old self.old.open_files (λ start.
-            OnErr result (OpensWithin (included (F.sources files.old) (chosen self.old.setup) unit text.now)
-            (state (F.sources files.old) start (F.openings files.old) self.old) (opened_since start (F.openings files.new)))) }
-        ensures went { Went F.Files files.old files.new self.old.open_files self.new.open_files }
+        ensures called { PartOfTurn F.Files (λ sources o. included sources o unit text.now) (in_inclusion text.now) files.old files.new
+            self.old self.new (halt_in result lost.new) }
         ensures goes_on { OnOk result ((ended self.new ≡ true) ⊎ GoesOn false self.old.open_files self.new.open_files) }
-        ensures goes { OnOk result (self.new.open_files.lexer.has_failed ≡ false) }
-        ensures setup { self.new.setup ≡ self.old.setup }
-        ensures set { IsSet self.new }
         ensures quoted { OnOk result (self.new.quoted ≡ self.old.quoted) }
-        ensures fault { IfErr result (λ halt. Caused (fault_of halt lost.new)
-            (λ name. IsUnreadable F.Files files.old files.new self.old.open_files self.new.open_files) ⊥) }
-        ensures stops { Honestly F.Files files.old self.old.open_files (λ start.
-            IfErr result (λ halt. IfRead (fault_of halt lost.new) (λ name. (name ≡ text.now)
-            × NotTried (Rose (F.faults files.old) (F.faults files.new)) (F.sources files.old) (chosen self.old.setup).directories text.now
-            (nesting (F.sources files.old) start (F.openings files.old) self.old.open_files)
-            (opened_since start (F.openings files.new))))) }
         ensures room { OnOk result (HasRoom self.new.room self.new.open_files) }
-        ensures seen { HaltTellsEachRead result lost.new (F.faults files.old) (F.faults files.new) }
-        ensures fits { OnOk result (StaysFit F.Files files.old files.new self.old.open_files) }
     {
         let told = String::from_str(self.alloc, shown(text))?;
         let mut conditionals = self.conditionals.take_among();
@@ -603,20 +436,12 @@ impl<'a, B: Bounds> Session<'a, B> {
         requires set { IsSet self.old }
         requires room { HasRoom self.old.room self.old.open_files }
         requires at_end { is_mode_ended self.old.progress.reader.mode ≡ true }
-        ensures left { Honestly F.Files files.old self.old.open_files (λ start.
-            OnOk result ((told : List ℕ) → state (F.sources files.old) start (F.openings files.new) self.new told
-            ≡ left (state (F.sources files.old) start (F.openings files.old) self.old told))) }
-        ensures opened { Honestly F.Files files.old self.old.open_files (λ start.
-            opened_since start (F.openings files.new) ≡ opened_since start (F.openings files.old)) }
-        ensures went { Went F.Files files.old files.new self.old.open_files self.new.open_files }
+        ensures called { PartOfTurn F.Files (λ sources o. left) nowhere files.old files.new self.old self.new (halt_in result None) }
         ensures goes_on { OnOk result ((ended self.new ≡ true) ⊎ GoesOn true self.old.open_files self.new.open_files) }
         ensures memory { IfErr result (λ halt. halt ≡ Halt.Memory) }
         ensures goes { self.old.open_files.lexer.has_failed ≡ false → self.new.open_files.lexer.has_failed ≡ false }
-        ensures setup { self.new.setup ≡ self.old.setup }
-        ensures set { IsSet self.new }
         ensures quoted { OnOk result (self.new.quoted ≡ self.old.quoted) }
         ensures room { OnOk result (HasRoom self.new.room self.new.open_files) }
-        ensures seen { F.faults files.new ≡ F.faults files.old }
         ensures fits { StaysFit F.Files files.old files.new self.old.open_files }
     {
         self.conditionals

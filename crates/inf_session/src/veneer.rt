@@ -1,12 +1,11 @@
 //! The routines of the veneer: the compiler supplies them where a source uses them and has none of its own.
-ghost use Rattle.std.specs.Prelude.{◌≡◌, ℕ, ◌≤◌, ◌<◌, ◌⊎◌, List, IfErr, IfOk, IfSome, Ok, OnErr};
-ghost use Rattle.std.specs.Prelude.{OnOk, false, is_none, is_some, length, true};
-ghost use Rattle.inf_devices.specs.Files.{Openings, Rose, Sources};
-ghost use Rattle.inf_session.specs.{Choices.chosen, Choices.most_quoted, Leading.CutsShort, Leading.Writes, Session.rested};
-ghost use Rattle.inf_session.specs.{Session.stepped, Standing.came_to, Standing.ended, Standing.next_of, Standing.state};
+ghost use Rattle.std.specs.Prelude.{◌≡◌, ℕ, ◌≤◌, ◌<◌, ◌⊎◌, List, IfOk, IfSome, Ok, OnOk, false, is_none, is_some, length, true};
+ghost use Rattle.inf_devices.specs.Files.{Openings, Sources};
+ghost use Rattle.inf_session.specs.{Choices.chosen, Choices.most_quoted, Promises.Supplies, Promises.fault_in, Session.rested};
+ghost use Rattle.inf_session.specs.{Session.stepped};
+ghost use Rattle.inf_session.specs.Standing.{came_to, ended, next_of, state};
 ghost use Rattle.inf_session.specs.Veneer.{in_text, is_wanted, most_texts, next_supplied, supplied, text_begun, text_read, text_turns};
 ghost use Rattle.inf_session.specs.Veneer.{veneer_text};
-ghost use Rattle.inf_ending.specs.{Delivered.Appends, Faults.Caused, Faults.HidesNoFailure};
 
 use crate::session::{Session, Step};
 use crate::tokens::take;
@@ -38,16 +37,7 @@ impl<'a, B: Bounds> Session<'a, B> {
     /// Reads the rest of the veneer: each routine that is used and not declared, in their order. The messages of a routine are
     /// written at its end. Behind a fatal message none is read.
     pub fn supply<M: Sink>(&mut self, messages: &mut M) -> Result<(), Fault>
-        ensures supplied { (sources : Sources) → (start now : Openings) →
-            OnOk result (Writes (supplied B.most (chosen self.old.setup)) (state sources start now self.old)
-            (state sources start now self.new) (M.taken messages.old) (M.taken messages.new)) }
-        ensures cut { (sources : Sources) → (start now : Openings) →
-            OnErr result (CutsShort (supplied B.most (chosen self.old.setup)) (state sources start now self.old)
-            (M.taken messages.old) (M.taken messages.new)) }
-        ensures files { self.new.open_files ≡ self.old.open_files }
-        ensures fault { IfErr result (λ fault. Caused fault (λ name. ⊥) (Rose (M.failures messages.old) (M.failures messages.new))) }
-        ensures wrote { Appends M.Sink messages.old messages.new
-            × HidesNoFailure result (M.failures messages.old) (M.failures messages.new) }
+        ensures supplied { Supplies M.Sink (supplied B.most) messages.old messages.new self.old self.new (fault_in result) }
     {
         let mut was_read = true;
         while was_read {
@@ -58,12 +48,7 @@ impl<'a, B: Bounds> Session<'a, B> {
 
     /// Reads the next routine of the veneer that is used and not declared, and returns the result of this step.
     pub(crate) fn step_veneer<M: Sink>(&mut self, messages: &mut M) -> Result<Step, Fault>
-        ensures supplied { (sources : Sources) → (start now : Openings) →
-            OnOk result (Writes (next_supplied B.most (chosen self.old.setup)) (state sources start now self.old)
-            (state sources start now self.new) (M.taken messages.old) (M.taken messages.new)) }
-        ensures cut { (sources : Sources) → (start now : Openings) →
-            OnErr result (CutsShort (next_supplied B.most (chosen self.old.setup)) (state sources start now self.old)
-            (M.taken messages.old) (M.taken messages.new)) }
+        ensures supplied { Supplies M.Sink (next_supplied B.most) messages.old messages.new self.old self.new (fault_in result) }
         ensures came { IfOk result (λ step. step ≡ came_to (is_none (next_of self.old)) self.new) }
         ensures ends { IfOk result (λ step. (step ≡ Step.More → ⊥) → is_none (next_of self.new) ≡ true) }
         ensures again { is_none (next_of self.old) ≡ true →
@@ -72,11 +57,6 @@ impl<'a, B: Bounds> Session<'a, B> {
         ensures falls { OnOk result ((is_none (next_of self.new) ≡ true) ⊎ ((self.old.passed < self.new.passed)
             × (self.new.passed ≤ most_texts))) }
         ensures longest { let most = most_quoted (chosen self.old.setup) in self.old.quoted ≤ most → OnOk result (self.new.quoted ≤ most) }
-        ensures files { self.new.open_files ≡ self.old.open_files }
-        ensures setup { self.new.setup ≡ self.old.setup }
-        ensures fault { IfErr result (λ fault. Caused fault (λ name. ⊥) (Rose (M.failures messages.old) (M.failures messages.new))) }
-        ensures wrote { Appends M.Sink messages.old messages.new
-            × HidesNoFailure result (M.failures messages.old) (M.failures messages.new) }
     {
         let was_read = self.read_veneer(messages)?;
         Ok(self.came_to(!was_read))
@@ -85,23 +65,13 @@ impl<'a, B: Bounds> Session<'a, B> {
     /// Reads the next routine of the veneer that is used and not declared, and writes its messages at its end. Behind a fatal
     /// message there is no routine to read. Returns whether a routine was read; where none was, nothing has changed.
     fn read_veneer<M: Sink>(&mut self, messages: &mut M) -> Result<bool, Fault>
-        ensures supplied { (sources : Sources) → (start now : Openings) →
-            OnOk result (Writes (next_supplied B.most (chosen self.old.setup)) (state sources start now self.old)
-            (state sources start now self.new) (M.taken messages.old) (M.taken messages.new)) }
-        ensures cut { (sources : Sources) → (start now : Openings) →
-            OnErr result (CutsShort (next_supplied B.most (chosen self.old.setup)) (state sources start now self.old)
-            (M.taken messages.old) (M.taken messages.new)) }
+        ensures supplied { Supplies M.Sink (next_supplied B.most) messages.old messages.new self.old self.new (fault_in result) }
         ensures came { IfOk result (λ was_read. was_read ≡ is_some (next_of self.old)) }
         ensures behind { IfOk result (λ was_read. was_read ≡ true → (self.old.passed < self.new.passed) × (self.new.passed ≤ most_texts)) }
         ensures same { is_some (next_of self.old) ≡ false →
             (result ≡ Ok false) × ((self.new ≡ self.old) × (messages.new ≡ messages.old)) }
         ensures ended { ended self.old ≡ true → OnOk result (ended self.new ≡ true) }
         ensures longest { let most = most_quoted (chosen self.old.setup) in self.old.quoted ≤ most → OnOk result (self.new.quoted ≤ most) }
-        ensures files { self.new.open_files ≡ self.old.open_files }
-        ensures setup { self.new.setup ≡ self.old.setup }
-        ensures fault { IfErr result (λ fault. Caused fault (λ name. ⊥) (Rose (M.failures messages.old) (M.failures messages.new))) }
-        ensures wrote { Appends M.Sink messages.old messages.new
-            × HidesNoFailure result (M.failures messages.old) (M.failures messages.new) }
     {
         match self.next_wanted() {
             Some(number) => {
@@ -144,20 +114,10 @@ impl<'a, B: Bounds> Session<'a, B> {
     /// Reads the text of the veneer with the number `number`, and writes its messages.
     fn read_text<M: Sink>(&mut self, number: usize, messages: &mut M) -> Result<(), Fault>
         requires { number ≤ most_texts }
-        ensures read { (sources : Sources) → (start now : Openings) →
-            OnOk result (Writes (text_read B.most (chosen self.old.setup) number) (state sources start now self.old)
-            (state sources start now self.new) (M.taken messages.old) (M.taken messages.new)) }
-        ensures cut { (sources : Sources) → (start now : Openings) →
-            OnErr result (CutsShort (text_read B.most (chosen self.old.setup) number) (state sources start now self.old)
-            (M.taken messages.old) (M.taken messages.new)) }
+        ensures read { Supplies M.Sink (λ o. text_read B.most o number) messages.old messages.new self.old self.new (fault_in result) }
         ensures passed { OnOk result (self.new.passed ≡ number) }
         ensures over { OnOk result (self.new.is_over ≡ true) }
         ensures longest { let most = most_quoted (chosen self.old.setup) in self.old.quoted ≤ most → OnOk result (self.new.quoted ≤ most) }
-        ensures files { self.new.open_files ≡ self.old.open_files }
-        ensures setup { self.new.setup ≡ self.old.setup }
-        ensures fault { IfErr result (λ fault. Caused fault (λ name. ⊥) (Rose (M.failures messages.old) (M.failures messages.new))) }
-        ensures wrote { Appends M.Sink messages.old messages.new
-            × HidesNoFailure result (M.failures messages.old) (M.failures messages.new) }
     {
         let text = text_of(number);
         let set = self.open_files.characters();

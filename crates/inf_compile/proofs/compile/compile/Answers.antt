@@ -1,4 +1,4 @@
-use Rattle.std.proofs.Common.{IfOk, IfErr, OnOk, OnErr, ◌≡◌, ◌==◌, inl, ℕ, List, Option, ap, codes, length, true, false, refl, subst, sym, ◌∙◌}
+use Rattle.std.proofs.Common.{IfOk, IfErr, OnOk, OnErr, ◌≡◌, inl, ℕ, List, Option, ap, codes, true, false, refl, subst, sym, ◌∙◌}
 use Rattle.std.proofs.lemmas.Result.{IfErr-weaker, IfOk-weaker, on_err_weaker}
 use Rattle.inf_opcode.proofs.Growing.{on_err}
 use Rattle.inf_devices.specs.{Files.Rose, Files.Sources, Sinks.Takes}
@@ -7,11 +7,11 @@ use Rattle.inf_session.specs.Session.{start}
 use Rattle.inf_settings.specs.Bounds.{limits_of}
 use Rattle.inf_compile.specs.Comes.{Begins, Heard, OpenedBy, OpenedPart, StopsEarly}
 use Rattle.inf_compile.proofs.Concluding.{early_none, if_memory_more}
-use Rattle.inf_compile.specs.Compiling.{Compiles, DeliversPart, HasCause, IfMemory, chosen_by, named_by}
+use Rattle.inf_compile.specs.Compiling.{Compiles, DeliversPart, IfMemory, chosen_by, named_by}
 use Rattle.inf_ending.specs.{Ending.missing, Faults.IfRead, Faults.IfStory, declared.compiled.Status.Status}
 use Rattle.inf_compile.proofs.Delivering.{all_named, more_caused, none_clean, none_read, none_told, refused_begins, refused_compiles}
-use Rattle.inf_compile.proofs.Delivering.{refused_opens, unfailed_always}
-use Rattle.inf_session.proofs.Telling.{tells_none}
+use Rattle.inf_compile.proofs.Delivering.{unfailed_always}
+use Rattle.inf_compile.proofs.Telling.{tells_none}
 use Rattle.inf_compile.proofs.compile.compile.Goals as goal
 
 pub returns-then-names_nothing-clause-headline : goal.returns-then-names_nothing-clause-headline
@@ -208,7 +208,8 @@ returns-clause-early g c = λ honest.
     let old = files.openings c.args.files.now in
     let new = files.openings c.compile_named.new.files in
     let some = sym c.names_nothing.ensures ∙ c.if-names_nothing.false in
-    all_named (λ (x : Sources). IfErr c.compile_named.result (λ fault. IfMemory fault (StopsEarly (limits_of o.settings) x o (start x o name)
+    all_named (λ (x : Sources). IfErr c.compile_named.result (λ fault. IfMemory fault (StopsEarly (limits_of o.settings) x o
+    (start x o name)
     before after))) word s some (c.compile_named.ensures.early honest)
 
 pub returns-then-names_nothing-clause-early : goal.returns-then-names_nothing-clause-early
@@ -221,6 +222,7 @@ returns-then-names_nothing-clause-early g c = λ honest.
     let before = m.taken c.args.messages.now in
     let after = m.taken c.refuse.new.messages in
     let was = start named o (source_name options.source) in
-    if_memory_more c.refuse.result (c.refuse.new.messages ≡ c.args.messages.now) (StopsEarly (limits_of o.settings) named o was before after)
+    if_memory_more c.refuse.result (c.refuse.new.messages ≡ c.args.messages.now) (StopsEarly
+    (limits_of o.settings) named o was before after)
     (λ same. subst (λ (x : Option (List ℕ)). StopsEarly (limits_of o.settings) named o was before x) (sym (ap m.taken same))
     (early_none (limits_of o.settings) named o was before)) c.refuse.ensures.memory

@@ -9,7 +9,7 @@ use Rattle.inf_compile.specs.{Chosen.chosen_for, Compiling.IfMemory, Compiling.c
 use Rattle.inf_compile.proofs.Delivering.{begins_whole, clean_where_delivered, never_story, opened_whole}
 use Rattle.inf_ending.specs.Faults.{UnlessMessages, UnlessRead}
 use Rattle.inf_ending.proofs.Quiet.{hides_always, hides_behind, hides_none}
-use Rattle.inf_session.proofs.Telling.{tells_behind, tells_none}
+use Rattle.inf_compile.proofs.Telling.{tells_behind, tells_none}
 use Rattle.inf_compile.proofs.compile.compile_named.Goals as goal
 
 pub returns-clause-begins : goal.returns-clause-begins

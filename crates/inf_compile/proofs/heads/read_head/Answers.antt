@@ -1,4 +1,7 @@
-use Rattle.std.proofs.Common.{◌-◌, true, false, IsTrue, refl, sym, ap, subst, ◌∙◌, arith, length}
+use Rattle.std.proofs.Common.{◌-◌, ◌<◌, ◌⊎◌, inl, inr, true, false, Err, IsTrue, refl, sym, ap, subst, ◌∙◌, arith, length}
+use Rattle.inf_devices.specs.Files.{Rose}
+use Rattle.inf_lexer.proofs.Candidates.{rose_earlier}
+use Rattle.inf_lexer.proofs.Reading.{fault_is}
 use Rattle.inf_lexer.specs.{Heads.goes_on_at, Heads.is_behind, Heads.is_word, Unread.unread, declared.head.HeadPlace.HeadPlace}
 use Rattle.inf_opcode.proofs.Growing.{on_err}
 use Rattle.inf_sources.specs.{Heading.ReadsHead, Heading.UnfinishedHead, Open.nesting}
@@ -138,3 +141,71 @@ returns-in_err-next_head_word-clause-unfinished g c = λ honest start nested.
     on_err c.from_residual.result (stops_behind (nesting (files.sources a) start (files.openings a) x)
     (nesting (files.sources a) start (files.openings b) y) from c.loop-head.head past (unread (files.sources a) (files.openings d))
     (inv.led honest start nested) not_ended)
+
+pub returns-in_err-next_head_word-clause-opened : goal.returns-in_err-next_head_word-clause-opened
+returns-in_err-next_head_word-clause-opened g c = λ honest start nested.
+    let inv = c.loop-head.invariant in
+    c.next_head_word.ensures.reads.opened (subst (λ t. IsTrue t) (sym inv.went.honesty) honest) start (inv.went.nested honest start nested)
+    ∙ inv.opened honest start nested
+
+pub returns-in_err-next_head_word-clause-went : goal.returns-in_err-next_head_word-clause-went
+returns-in_err-next_head_word-clause-went g c =
+    went_then g.F.Files c.args.files.now c.loop-head.files c.next_head_word.new.files c.args.open_files.now c.loop-head.open_files
+    c.next_head_word.new.self c.loop-head.invariant.went c.next_head_word.ensures.reads.went
+
+pub returns-in_err-next_head_word-clause-same : goal.returns-in_err-next_head_word-clause-same
+returns-in_err-next_head_word-clause-same g c =
+    let reads = c.next_head_word.ensures.reads in
+    let same = c.loop-head.invariant.same in
+    (reads.nest ∙ same.0, (reads.outer ∙ same.1.0, reads.file ∙ same.1.1))
+
+pub returns-in_err-next_head_word-clause-window : goal.returns-in_err-next_head_word-clause-window
+returns-in_err-next_head_word-clause-window g c = λ few. c.next_head_word.ensures.reads.on.window
+
+pub returns-clause-opened : goal.returns-clause-opened
+returns-clause-opened g c = λ honest start nested.
+    let inv = c.loop-head.invariant in
+    c.next_head_word.ensures.reads.opened (subst (λ t. IsTrue t) (sym inv.went.honesty) honest) start (inv.went.nested honest start nested)
+    ∙ inv.opened honest start nested
+
+pub returns-clause-went : goal.returns-clause-went
+returns-clause-went g c =
+    went_then g.F.Files c.args.files.now c.loop-head.files c.next_head_word.new.files c.args.open_files.now c.loop-head.open_files
+    c.next_head_word.new.self c.loop-head.invariant.went c.next_head_word.ensures.reads.went
+
+pub returns-clause-same : goal.returns-clause-same
+returns-clause-same g c =
+    let reads = c.next_head_word.ensures.reads in
+    let same = c.loop-head.invariant.same in
+    (reads.nest ∙ same.0, (reads.outer ∙ same.1.0, reads.file ∙ same.1.1))
+
+pub returns-clause-window : goal.returns-clause-window
+returns-clause-window g c = λ few. c.next_head_word.ensures.reads.on.window
+
+pub returns-clause-fits : goal.returns-clause-fits
+returns-clause-fits g c =
+    fit_then g.F.Files c.args.files.now c.loop-head.files c.next_head_word.new.files c.args.open_files.now c.loop-head.open_files
+    c.loop-head.invariant.went c.loop-head.invariant.fits c.in_ok-next_head_word.ensures.reads.fits
+
+pub returns-clause-seen : goal.returns-clause-seen
+returns-clause-seen g c = c.in_ok-next_head_word.ensures.reads.on.calm ∙ c.loop-head.invariant.seen
+
+pub returns-in_err-next_head_word-clause-on : goal.returns-in_err-next_head_word-clause-on
+returns-in_err-next_head_word-clause-on g c = λ lost.
+    let stops = c.in_err-next_head_word.ensures in
+    let reads = rw stops.refused.0 at stops.reads in
+    reads.on.on
+
+pub returns-in_err-next_head_word-clause-cause : goal.returns-in_err-next_head_word-clause-cause
+returns-in_err-next_head_word-clause-cause g c = λ lost.
+    let files = g.F.Files in
+    let stops = c.in_err-next_head_word.ensures in
+    let told = stops.refused.0 in
+    let reads = rw told at stops.reads in
+    let cause : Rose (files.faults c.args.files.now) (files.faults c.next_head_word.new.files)
+    ⊎ (16777216 < c.next_head_word.new.self.lexer.window.given) = elim reads.on.cause [
+      | inl rose ↦ inl (rose_earlier (files.faults c.args.files.now) (files.faults c.loop-head.files)
+          (files.faults c.next_head_word.new.files) c.loop-head.invariant.went.faults rose)
+      | inr long ↦ inr long
+    ] in
+    (fault_is c.from_residual.result c.from_residual.ensures ∙ ap Err told, cause)

@@ -1,8 +1,10 @@
-use Rattle.std.proofs.Common.{rules, ◌≡◌, ◌+◌, ◌≤◌, ℕ, List, [], Result, Err, inl, inr, IsTrue, string_bytes, IfErr, IfOk, length}
-use Rattle.std.proofs.Common.{min, refl, ap, subst, sym, ◌∙◌}
+use Rattle.std.proofs.Common.{rules, ◌≡◌, ◌+◌, ℕ, arith, List, [], Result, Err, inl, inr, IsTrue, string_bytes, IfErr, IfOk, length}
+use Rattle.std.proofs.Common.{refl, ap, subst, sym, ◌∙◌}
 use Rattle.std.proofs.lemmas.Result.{on_err_weaker}
-use Rattle.inf_devices.specs.Files.{Rose, Sources, last_count}
+use Rattle.inf_devices.specs.Files.{Rose, Sources}
+use Rattle.inf_lexer.specs.Readers.{Reader}
 use Rattle.inf_lexer.proofs.Candidates.{rose_earlier}
+use Rattle.inf_sources.specs.declared.open_file.OpenFile.{OpenFile}
 use Rattle.inf_sources.specs.{Calls.IsUnreadable, Calls.StaysFit, Inclusions.Nesting, Inclusions.main_opened}
 use Rattle.inf_sources.specs.Open.{AllGiven, Each, Fits, nesting, opened_since}
 use Rattle.inf_ending.specs.{Delivered.TakesFront, Faults.IfRead, Faults.TellsEachRead, declared.faults.Fault.Fault}
@@ -10,10 +12,10 @@ use Rattle.inf_ending.specs.Ending.{Outcome, missing, seen}
 use Rattle.inf_opcode.proofs.Growing.{on_err}
 use Rattle.inf_session.specs.{Leading.OpensAll, Session.run, Session.start}
 use Rattle.inf_ending.proofs.{Delivering.if_ok_more, Quiet.hides_none}
-use Rattle.inf_session.proofs.{Standings.if_caused_more, Telling.tells_none, Telling.tells_then}
+use Rattle.inf_compile.proofs.Telling.{if_caused_more, tells_none, tells_then}
 use Rattle.inf_settings.specs.Bounds.{limits_of}
 use Rattle.inf_compile.specs.Chosen.{begun_at, chosen_at, chosen_for}
-use Rattle.inf_compile.specs.Comes.{Begins, Comes, Concludes, GivenUpFrom, Heard, IsUnread, Stops, StopsEarly}
+use Rattle.inf_compile.specs.Comes.{Begins, Comes, Concludes, GivenUpFrom, IsUnread, Stops, StopsEarly}
 use Rattle.inf_compile.proofs.Concluding.{early_none, if_memory_any, if_memory_more, never_memory}
 use Rattle.inf_compile.proofs.Concluding.{begins_missing, begins_none, begins_of, comes_of, if_ok_both, on_err_leads}
 use Rattle.inf_compile.proofs.GivingUp.{counted_at_front, given_up_from_between, heard_from, heard_none, opened_some, unread_by}
@@ -245,16 +247,16 @@ returns-in-Err-Absent-clause-seen g c =
     let files = g.F.Files in
     let first = files.faults c.args.files.now in
     let entered = files.faults c.enter_main.new.files in
-    let same : entered ≡ first = search rules in
-    tells_none c.written.result first entered same
+    let tries = rw c.in-Err-Absent.field-0-is at c.in-Err-Absent.ensures.tries in
+    tells_none c.written.result first entered tries.calm
 
 pub returns-in_err-no_file-in-Err-Absent-clause-seen : goal.returns-in_err-no_file-in-Err-Absent-clause-seen
 returns-in_err-no_file-in-Err-Absent-clause-seen g c =
     let files = g.F.Files in
     let first = files.faults c.args.files.now in
     let entered = files.faults c.enter_main.new.files in
-    let same : entered ≡ first = search rules in
-    tells_none c.from_residual-in_err-no_file-in-Err-Absent.result first entered same
+    let tries = rw c.in-Err-Absent.field-0-is at c.in-Err-Absent.ensures.tries in
+    tells_none c.from_residual-in_err-no_file-in-Err-Absent.result first entered tries.calm
 
 -- no room for the name
 
@@ -315,3 +317,31 @@ returns-in-Err-Memory-clause-early g c = λ honest. early_none _ _ _ _ _
 
 pub returns-in-Err-Absent-clause-early : goal.returns-in-Err-Absent-clause-early
 returns-in-Err-Absent-clause-early g c = λ honest. never_memory c.written.result _ c.written.ensures.only
+
+pub returns-in-Err-Memory-clause-seen : goal.returns-in-Err-Memory-clause-seen
+returns-in-Err-Memory-clause-seen g c =
+    let tries = rw c.in-Err-Memory.field-0-is at c.in-Err-Memory.ensures.tries in (tt, tries.calm)
+
+-- Nothing is left open.
+
+pub translate_opened-open_files-requires-clause-is_open : goal.translate_opened-open_files-requires-clause-is_open
+translate_opened-open_files-requires-clause-is_open g c =
+    let entered : g.F.Files.depth c.enter_main.new.files ≡ g.F.Files.depth c.args.files.now + 1 = c.in-Ok.ensures.tries.depth in
+    omega (arith, entered, ap (λ (fs : List OpenFile). length fs) c.in-Ok.ensures.front.1.0)
+
+pub translate_opened-open_files-requires-clause-alone : goal.translate_opened-open_files-requires-clause-alone
+translate_opened-open_files-requires-clause-alone g c = c.in-Ok.ensures.front.1.0
+
+pub translate_opened-open_files-requires-clause-goes : goal.translate_opened-open_files-requires-clause-goes
+translate_opened-open_files-requires-clause-goes g c = ap (λ (r : Reader). r.has_failed) c.in-Ok.ensures.front.0
+
+pub returns-clause-depth : goal.returns-clause-depth
+returns-clause-depth g c =
+    let entered : g.F.Files.depth c.enter_main.new.files ≡ g.F.Files.depth c.args.files.now + 1 = c.in-Ok.ensures.tries.depth in
+    omega (
+      arith,
+      entered,
+      c.translate_opened-open_files.ensures.went.depth,
+      c.close.ensures.depth,
+      ap (λ (fs : List OpenFile). length fs) c.in-Ok.ensures.front.1.0,
+    )

@@ -4,7 +4,7 @@ use Rattle.inf_devices.specs.Files.{Rose, Sources}
 use Rattle.inf_lexer.proofs.Candidates.{rose_earlier}
 use Rattle.inf_sources.specs.{Calls.IsUnreadable, Calls.StaysFit, Inclusions.Nesting, Open.Open, Open.nesting, Open.opened_since}
 use Rattle.inf_sources.proofs.Calls.{fit_then, unreadable_then, went_none, went_then}
-use Rattle.inf_session.proofs.{Standings.if_caused_more, Standings.if_read_more, Telling.tells_then}
+use Rattle.inf_compile.proofs.Telling.{if_caused_more, if_read_more, tells_then}
 use Rattle.inf_letters.specs.Letters.{set_of}
 use Rattle.inf_session.specs.{Choices.Choices, Choices.most_quoted, Leading.GivenUp, Leading.OpensAll, Session.first_state, Session.run}
 use Rattle.inf_ending.specs.{Faults.IfRead, declared.faults.Fault.Fault}
@@ -103,7 +103,8 @@ returns-clause-early g c = λ honest start nested.
     let r = c.translate_under.result in
     let still = subst (λ b. IsTrue b) (sym c.read_head.ensures.went.honesty) honest in
     let here = c.choose.ensures.nested start mid (c.read_head.ensures.went.nested honest start nested) in
-    let chosen : p ≡ o = chosen_over_is was c.in-Ok-read_head.head c.args.options.now options p (c.in-Ok-read_head.ensures.head honest start nested)
+    let chosen : p ≡ o = chosen_over_is was c.in-Ok-read_head.head c.args.options.now options p
+    (c.in-Ok-read_head.ensures.head honest start nested)
     c.with_head-options.ensures
     (chosen_is c.letters.result options.letters c.settings-settings.result (settings_of options.settings)
     (map (λ d. d.now) c.as_slice.result.now) (directories_of options.path)

@@ -24,8 +24,8 @@ returns-in-Ok-clause-concludes g c = λ honest start nested.
     let after = g.M.Sink.taken c.read_out.new.messages in
     let here = subst (λ (x : Open). IsNested start old x) (sym c.in-Ok.ensures.files) nested in
     let begun = begun_is s o start old (nesting s start old c.args.open_files) session []
-    (ap (λ (x : Open). nesting s start old x) c.in-Ok.ensures.files) c.in-Ok.ensures.standing c.in-Ok.ensures.going
-    c.in-Ok.ensures.conditionals c.in-Ok.ensures.quoted c.in-Ok.ensures.passed in
+    (ap (λ (x : Open). nesting s start old x) c.in-Ok.ensures.files) c.in-Ok.ensures.begins.begun c.in-Ok.ensures.begins.going
+    c.in-Ok.ensures.begins.conditionals c.in-Ok.ensures.begins.quoted c.in-Ok.ensures.begins.passed in
     subst (λ (t : State). IfOk c.read_out.result.1 (λ x. Concludes (limits_of c.args.setup.settings.now) s o c.args.serial.now t start now
     c.read_out.result.0 before after x)) begun
     (subst (λ (p : Setup). IfOk c.read_out.result.1 (λ x. Concludes (limits_of c.args.setup.settings.now) s (chosen p) c.args.serial.now
@@ -45,8 +45,8 @@ returns-in-Ok-clause-stops g c = λ honest start nested.
     let after = g.M.Sink.taken c.read_out.new.messages in
     let here = subst (λ (x : Open). IsNested start old x) (sym c.in-Ok.ensures.files) nested in
     let begun = begun_is s o start old (nesting s start old c.args.open_files) session []
-    (ap (λ (x : Open). nesting s start old x) c.in-Ok.ensures.files) c.in-Ok.ensures.standing c.in-Ok.ensures.going
-    c.in-Ok.ensures.conditionals c.in-Ok.ensures.quoted c.in-Ok.ensures.passed in
+    (ap (λ (x : Open). nesting s start old x) c.in-Ok.ensures.files) c.in-Ok.ensures.begins.begun c.in-Ok.ensures.begins.going
+    c.in-Ok.ensures.begins.conditionals c.in-Ok.ensures.begins.quoted c.in-Ok.ensures.begins.passed in
     on_err_weaker c.read_out.result.1
     (λ k. subst (λ (t : State). Stops (limits_of c.args.setup.settings.now) s o c.args.serial.now t before after) begun
     (subst (λ (p : Setup). Stops (limits_of c.args.setup.settings.now) s (chosen p) c.args.serial.now (state s start old session []) before
@@ -70,8 +70,8 @@ returns-in-Ok-clause-heard g c = λ honest start nested.
     subst (λ (was : List ℕ → State). IfErr c.read_out.result.1 (λ x. IfRead x (λ name. GivenUp (limits_of c.args.setup.settings.now) rose s
     o was before after start now c.read_out.result.0 name)))
     (λ i told. begun_is s o start old (nesting s start old c.args.open_files) session told
-    (ap (λ (x : Open). nesting s start old x) c.in-Ok.ensures.files) c.in-Ok.ensures.standing c.in-Ok.ensures.going
-    c.in-Ok.ensures.conditionals c.in-Ok.ensures.quoted c.in-Ok.ensures.passed i)
+    (ap (λ (x : Open). nesting s start old x) c.in-Ok.ensures.files) c.in-Ok.ensures.begins.begun c.in-Ok.ensures.begins.going
+    c.in-Ok.ensures.begins.conditionals c.in-Ok.ensures.begins.quoted c.in-Ok.ensures.begins.passed i)
     (subst (λ (p : Setup). IfErr c.read_out.result.1 (λ x. IfRead x (λ name. GivenUp (limits_of c.args.setup.settings.now) rose s (chosen p)
     (state s start old session) before after start now c.read_out.result.0 name))) c.in-Ok.ensures.setup
     (subst (λ (limits : Limits). IfErr c.read_out.result.1 (λ x. IfRead x (λ name. GivenUp limits rose s (chosen session.setup)
@@ -92,8 +92,8 @@ returns-in-Ok-clause-opened g c = λ honest start nested.
       k.0,
       subst (λ (was : List ℕ → State). OpensAll (run (limits_of c.args.setup.settings.now) s o k.0) was (opened_since start now))
           (λ i told. begun_is s o start old (nesting s start old c.args.open_files) session told
-          (ap (λ (x : Open). nesting s start old x) c.in-Ok.ensures.files) c.in-Ok.ensures.standing c.in-Ok.ensures.going
-          c.in-Ok.ensures.conditionals c.in-Ok.ensures.quoted c.in-Ok.ensures.passed i)
+          (ap (λ (x : Open). nesting s start old x) c.in-Ok.ensures.files) c.in-Ok.ensures.begins.begun c.in-Ok.ensures.begins.going
+          c.in-Ok.ensures.begins.conditionals c.in-Ok.ensures.begins.quoted c.in-Ok.ensures.begins.passed i)
           (subst (λ (p : Setup). OpensAll (run (limits_of c.args.setup.settings.now) s (chosen p) k.0) (state s start old session)
           (opened_since start now)) c.in-Ok.ensures.setup
           (subst (λ (limits : Limits). OpensAll (run limits s (chosen session.setup) k.0) (state s start old session) (opened_since
@@ -145,8 +145,8 @@ returns-in-Ok-clause-early g c = λ honest start nested.
     let here = subst (λ (x : Open). IsNested start old x) (sym c.in-Ok.ensures.files) nested in
     let was = nesting s start old c.args.open_files in
     let begun = begun_is s o start old was session []
-    (ap (λ (x : Open). nesting s start old x) c.in-Ok.ensures.files) c.in-Ok.ensures.standing c.in-Ok.ensures.going
-    c.in-Ok.ensures.conditionals c.in-Ok.ensures.quoted c.in-Ok.ensures.passed in
+    (ap (λ (x : Open). nesting s start old x) c.in-Ok.ensures.files) c.in-Ok.ensures.begins.begun c.in-Ok.ensures.begins.going
+    c.in-Ok.ensures.begins.conditionals c.in-Ok.ensures.begins.quoted c.in-Ok.ensures.begins.passed in
     if_memory_more c.read_out.result.1
     (StopsEarly g.B.Bounds.most s (chosen session.setup) (state s start old session []) before after)
     (StopsEarly (limits_of c.args.setup.settings.now) s o (first_state o was []) before after)

@@ -1,106 +1,161 @@
-use Rattle.std.proofs.Common.{rules, ◌≡◌, ◌⊎◌, inl, inr, List, Ok, Err, Vec, ap, refl, reverse, subst, sym, ◌∙◌}
+use Rattle.std.proofs.Common.{rules, false, ◌≡◌, ◌⊎◌, inl, inr, List, Ok, Err, Some, Vec, ap, refl, reverse, subst, sym, ◌∙◌}
 use Rattle.std.specs.declared.alloc.Global.{Global}
-use Rattle.inf_sources.specs.{Calls.IsUnreadable, Open.Open, Open.nesting, Open.opened_since}
+use Rattle.inf_sources.specs.{Calls.IsUnreadable, Open.Open, Open.lexers_of, Open.nesting, Open.opened_since}
+use Rattle.inf_sources.proofs.Entered.{lexers_more}
 use Rattle.inf_sources.specs.Inclusions.{OpenedInVain, OpensTooMany, inclusion}
-use Rattle.inf_session.specs.{Choices.chosen, Leading.NotTried, Session.State, Session.none_included, Standing.state}
+use Rattle.inf_session.specs.{Choices.chosen, Session.State, Session.none_included, Standing.HasRoom, Standing.state}
+use Rattle.inf_session.specs.Weights.{Enters, Stays}
 use Rattle.inf_devices.specs.Files.{Rose}
-use Rattle.inf_ending.specs.{Faults.Caused, Faults.IfRead, Faults.fault_of, declared.faults.Fault.Fault}
-use Rattle.inf_opcode.proofs.Growing.{on_err}
-use Rattle.inf_sources.proofs.Calls.{went_none}
-use Rattle.inf_sources.specs.declared.{open_file.Conditional.Conditional, open_files.Included.Included}
+use Rattle.inf_ending.specs.declared.faults.Fault.{Fault}
+use Rattle.inf_sources.specs.declared.{faults.IncludeFault.IncludeFault, open_file.Conditional.Conditional, open_files.Included.Included}
 use Rattle.inf_lexer.specs.Names.{Nest}
 use Rattle.inf_conditionals.specs.{Ends.with_among, Open.Conditions}
 use Rattle.inf_report.specs.{Meant.meant, Messages.Location}
 use Rattle.inf_unit.specs.Messages.{location, with_fatal}
-use Rattle.inf_session.proofs.{Opening.in_vain, Opening.not_entered, Telling.halt_tells_none, Telling.unless_read_told}
+use Rattle.inf_session.proofs.Opening.{entered, in_vain, not_entered, on_ok_at, tried}
+use Rattle.inf_session.proofs.Promises.{promised_as, promised_failed, promised_here, promised_went, told_halt}
 use Rattle.inf_session.proofs.session.Session.include.Goals.{in-Ok-NotThere, in-Ok-TooDeep}
 use Rattle.inf_session.proofs.session.Session.include.Goals as goal
 
-pub returns-in-Err-Device-clause-fault : goal.returns-in-Err-Device-clause-fault
-returns-in-Err-Device-clause-fault g c =
-    let files = g.F.Files in
-    let before = c.args.self.now.open_files in
-    let unreadable = IsUnreadable files c.args.files.now c.include.new.files before c.include.new.self in
-    let cause : unreadable =
-    elim (c.in-Err-Device.ensures.cause (ap (λ f. Err f) c.in-Err-Device.field-0-is)).1 [
-      | inl rose ↦ inl rose
-      | inr many ↦ inr (inr many.0)
-    ] in
-    subst (λ (f : Fault). Caused f (λ name. unreadable) ⊥) (sym c.lose.ensures) cause
+pub returns-in_err-told-clause-called : goal.returns-in_err-told-clause-called
+returns-in_err-told-clause-called g c =
+    promised_as (told_halt c.from_residual.result _ _ c.from_residual.ensures.1)
+    (promised_here (Some Fault.Memory) refl refl (λ s o start. tt)
+    (λ failed s o start. record { opened = inl (λ told. refl); unread = tt }) tt)
 
-pub returns-in-Err-Device-clause-stops : goal.returns-in-Err-Device-clause-stops
-returns-in-Err-Device-clause-stops g c = λ honest start nested.
+pub returns-in-Err-Device-clause-called : goal.returns-in-Err-Device-clause-called
+returns-in-Err-Device-clause-called g c =
     let files = g.F.Files in
-    let s = files.sources c.args.files.now in
-    let directories = (chosen c.args.self.now.setup).directories in
+    let before = c.args.self.now in
     let text = c.args.text.now in
-    let was = nesting s start (files.openings c.args.files.now) c.args.self.now.open_files in
-    let opened = opened_since start (files.openings c.include.new.files) in
-    let failed = Rose (files.faults c.args.files.now) (files.faults c.include.new.files) in
+    let s = files.sources c.args.files.now in
+    let o = chosen before.setup in
     let device = ap (λ f. Err f) c.in-Err-Device.field-0-is in
-    let cause : failed ⊎ OpensTooMany (inclusion s directories text was) was opened =
-    elim (c.in-Err-Device.ensures.cause device).1 [
-      | inl rose ↦ inl rose
-      | inr many ↦ inr (many.1 honest start nested)
+    let failed = Rose (files.faults c.args.files.now) (files.faults c.include.new.files) in
+    let unreadable : IsUnreadable files c.args.files.now c.include.new.files before.open_files c.include.new.self =
+    elim (c.in-Err-Device.ensures.cause device).1 [ inl rose ↦ inl rose | inr many ↦ inr (inr many.0) ] in
+    promised_as (ap (λ (e : Fault). Some e) (sym c.lose.ensures))
+    (promised_failed c.include.ensures.went refl c.include.ensures.settings.1 tt unreadable
+    (λ honest start nested.
+    let was = nesting s start (files.openings c.args.files.now) before.open_files in
+    let opened = opened_since start (files.openings c.include.new.files) in
+    let cause : failed ⊎ OpensTooMany (inclusion s o.directories text was) was opened =
+    elim (c.in-Err-Device.ensures.cause device).1 [ inl rose ↦ inl rose | inr many ↦ inr (many.1 honest start nested) ] in
+    let vain : OpenedInVain IncludeFault.Device (inclusion s o.directories text was) was opened =
+    subst (λ f. OpenedInVain f (inclusion s o.directories text was) was opened) c.in-Err-Device.field-0-is
+    (c.in-Err-Device.ensures.included honest start nested) in
+    record {
+      opened = in_vain s o c.args.unit text start (files.openings c.args.files.now) before opened vain;
+      unread = λ told. (
+        c.in_ok-told.ensures.ok ∙ c.shown.ensures (c.in-Err-Device.ensures.cause device).0,
+        record { cause = cause; openings_are = vain },
+      );
+    }))
+
+pub returns-in-Err-Memory-clause-called : goal.returns-in-Err-Memory-clause-called
+returns-in-Err-Memory-clause-called g c =
+    let files = g.F.Files in
+    let s = files.sources c.args.files.now in
+    let o = chosen c.args.self.now.setup in
+    let tries = rw c.in-Err-Memory.field-0-is at c.in-Err-Memory.ensures.tries in
+    promised_failed c.include.ensures.went refl c.include.ensures.settings.1 tries.calm tt
+    (λ honest start nested.
+    let was = nesting s start (files.openings c.args.files.now) c.args.self.now.open_files in
+    record {
+      opened = inl (λ told. subst (λ f. OpenedInVain f (inclusion s o.directories c.args.text.now was) was
+          (opened_since start (files.openings c.include.new.files))) c.in-Err-Memory.field-0-is
+          (c.in-Err-Memory.ensures.included honest start nested));
+      unread = tt;
+    })
+
+pub returns-in_err-fatal-clause-called : goal.returns-in_err-fatal-clause-called
+returns-in_err-fatal-clause-called g c =
+    let files = g.F.Files in
+    let s = files.sources c.args.files.now in
+    let before = c.args.self.now in
+    let seen : files.faults c.include.new.files ≡ files.faults c.args.files.now =
+    elim c.match-include-2.branch [
+      | in-Ok-NotThere w ↦ (
+          let is : c.include.result ≡ Ok Included.NotThere = search rules in let t = rw is at c.include.ensures.tries in t.calm
+          )
+      | in-Ok-TooDeep w ↦ (
+          let is : c.include.result ≡ Ok Included.TooDeep = search rules in let t = rw is at c.include.ensures.tries in t.calm
+          )
     ] in
-    subst (λ (f : Fault). IfRead f (λ name. (name ≡ text) × NotTried failed s directories text was opened)) (sym c.lose.ensures) (
-      c.in_ok-told.ensures.ok ∙ c.shown.ensures (c.in-Err-Device.ensures.cause device).0,
-      record {
-        cause = cause;
-        openings_are = subst (λ f. OpenedInVain f (inclusion s directories text was) was opened) c.in-Err-Device.field-0-is
-            (c.in-Err-Device.ensures.included honest start nested);
-      },
-    )
+    promised_as (told_halt c.from_residual-in_err-fatal.result _ _ c.from_residual-in_err-fatal.ensures.1)
+    (promised_failed c.include.ensures.went refl c.include.ensures.settings.1 seen tt
+    (λ honest start nested. record {
+      opened = elim c.match-include-2.branch [
+        | in-Ok-NotThere w ↦ (
+            let is : c.include.result ≡ Ok Included.NotThere = search rules in
+            let done = rw is at (c.include.ensures.included honest start nested) in
+            tried s (chosen before.setup) c.args.unit c.args.text.now _ _ _ _ start (files.openings c.args.files.now)
+            (files.openings c.include.new.files) before c.include.new.self
+            done.1
+            )
+        | in-Ok-TooDeep w ↦ (
+            let is : c.include.result ≡ Ok Included.TooDeep = search rules in
+            let done = rw is at (c.include.ensures.included honest start nested) in
+            tried s (chosen before.setup) c.args.unit c.args.text.now _ _ _ _ start (files.openings c.args.files.now)
+            (files.openings c.include.new.files) before c.include.new.self
+            done.1
+            )
+      ];
+      unread = tt;
+    }))
 
-pub returns-in-Err-Device-clause-opened : goal.returns-in-Err-Device-clause-opened
-returns-in-Err-Device-clause-opened g c = λ honest start nested.
+pub returns-in_err-make_room-in-Ok-Entered-clause-called : goal.returns-in_err-make_room-in-Ok-Entered-clause-called
+returns-in_err-make_room-in-Ok-Entered-clause-called g c =
     let files = g.F.Files in
     let s = files.sources c.args.files.now in
-    let o = chosen c.args.self.now.setup in
-    let old = files.openings c.args.files.now in
-    let new = files.openings c.include.new.files in
     let before = c.args.self.now in
-    let was = nesting s start old before.open_files in
-    in_vain s o c.args.unit c.args.text.now start old before (opened_since start new)
-    (subst (λ f. OpenedInVain f (inclusion s o.directories c.args.text.now was) was (opened_since start new)) c.in-Err-Device.field-0-is
-    (c.in-Err-Device.ensures.included honest start nested))
+    promised_as (told_halt c.from_residual-in_err-make_room-in-Ok-Entered.result _ _
+    c.from_residual-in_err-make_room-in-Ok-Entered.ensures.1)
+    (promised_failed c.include.ensures.went refl c.include.ensures.settings.1 c.in-Ok-Entered.ensures.tries.calm tt
+    (λ honest start nested. record {
+      opened = tried s (chosen before.setup) c.args.unit c.args.text.now _ _ _ _ start (files.openings c.args.files.now)
+          (files.openings c.include.new.files) before c.include.new.self (c.in-Ok-Entered.ensures.included honest start nested).1;
+      unread = tt;
+    }))
 
-pub returns-in-Err-Memory-clause-opened : goal.returns-in-Err-Memory-clause-opened
-returns-in-Err-Memory-clause-opened g c = λ honest start nested.
+pub returns-in-Ok-Entered-clause-called : goal.returns-in-Ok-Entered-clause-called
+returns-in-Ok-Entered-clause-called g c =
+    let call = c.in-Ok-Entered.ensures in
+    let moves = rw c.in-Ok-Entered.field-0-is at call.moves in
+    promised_went c.include.ensures.went refl c.include.ensures.settings.1 (λ goes. call.goes) c.include.ensures.fits call.tries.calm
+    (λ honest start nested told.
     let files = g.F.Files in
     let s = files.sources c.args.files.now in
-    let o = chosen c.args.self.now.setup in
-    let old = files.openings c.args.files.now in
-    let new = files.openings c.include.new.files in
     let before = c.args.self.now in
-    let was = nesting s start old before.open_files in
-    inl (λ told. subst (λ f. OpenedInVain f (inclusion s o.directories c.args.text.now was) was (opened_since start new))
-    c.in-Err-Memory.field-0-is (c.in-Err-Memory.ensures.included honest start nested))
+    let taken = c.take_among-conditionals in
+    entered s (chosen before.setup) c.args.unit c.args.text.now _ _ _ _ c.include.new.is_system
+    (state s start (files.openings c.args.files.now) before told) (nesting s start (files.openings c.include.new.files) c.include.new.self)
+    taken.new.self (sym c.in-Ok-Entered.field-0-is ∙ (call.included honest start nested).0)
+    (call.included honest start nested).1 refl c.requires.set
+    taken.ensures.taken refl taken.ensures.none moves.mark_is)
 
-pub returns-in-Err-Device-clause-seen : goal.returns-in-Err-Device-clause-seen
-returns-in-Err-Device-clause-seen g c =
-    let files = g.F.Files in
-    let same = files.faults c.include.new.files ≡ files.faults c.args.files.now in
-    (tt, unless_read_told (fault_of c.lose.result c.lose.new.lost) c.in_ok-told.told same c.lose.ensures)
-
-pub returns-in-Err-Memory-clause-seen : goal.returns-in-Err-Memory-clause-seen
-returns-in-Err-Memory-clause-seen g c = (tt, (rw c.in-Err-Memory.field-0-is at c.in-Err-Memory.ensures.tries).calm)
-
--- no room for the text
-
-pub returns-in_err-told-clause-went : goal.returns-in_err-told-clause-went
-returns-in_err-told-clause-went g c = went_none g.F.Files c.args.files.now c.args.self.now.open_files
-
-pub returns-in_err-told-clause-opened : goal.returns-in_err-told-clause-opened
-returns-in_err-told-clause-opened g c = λ honest start nested. on_err c.from_residual.result (inl (λ told. refl))
-
-pub returns-in_err-told-clause-seen : goal.returns-in_err-told-clause-seen
-returns-in_err-told-clause-seen g c =
-    let faults = g.F.Files.faults c.args.files.now in
-    halt_tells_none c.from_residual.result c.args.lost.now faults faults refl
-
-pub returns-clause-included : goal.returns-clause-included
-returns-clause-included g c = λ honest start nested told.
+pub returns-clause-called : goal.returns-clause-called
+returns-clause-called g c =
+    let seen : g.F.Files.faults c.include.new.files ≡ g.F.Files.faults c.args.files.now =
+    elim c.match-include-2.branch [
+      | in-Ok-NotThere w ↦ (
+          let is : c.include.result ≡ Ok Included.NotThere = search rules in let t = rw is at c.include.ensures.tries in t.calm
+          )
+      | in-Ok-TooDeep w ↦ (
+          let is : c.include.result ≡ Ok Included.TooDeep = search rules in let t = rw is at c.include.ensures.tries in t.calm
+          )
+    ] in
+    let goes : c.include.new.self.lexer.has_failed ≡ false =
+    elim c.match-include-2.branch [
+      | in-Ok-NotThere w ↦ (
+          let is : c.include.result ≡ Ok Included.NotThere = search rules in on_ok_at _ _ c.include.result _ _ is c.include.ensures.goes
+          )
+      | in-Ok-TooDeep w ↦ (
+          let is : c.include.result ≡ Ok Included.TooDeep = search rules in on_ok_at _ _ c.include.result _ _ is c.include.ensures.goes
+          )
+    ] in
+    promised_went c.include.ensures.went refl c.include.ensures.settings.1 (λ before. goes) c.include.ensures.fits seen
+    (λ honest start nested told.
     let files = g.F.Files in
     let s = files.sources c.args.files.now in
     let o = chosen c.args.self.now.setup in
@@ -139,4 +194,36 @@ returns-clause-included g c = λ honest start nested told.
           let is : c.include.result ≡ Ok Included.TooDeep = search rules in
           none Included.TooDeep is (λ e. cc) (rw is at call.moves) (ap (λ m. with_fatal here (meant m) report) w.message-is)
           )
-    ]
+    ])
+
+pub returns-in-Ok-Entered-clause-goes_on : goal.returns-in-Ok-Entered-clause-goes_on
+returns-in-Ok-Entered-clause-goes_on g c =
+    let before = c.args.self.now.open_files in
+    let moves = rw c.in-Ok-Entered.field-0-is at c.in-Ok-Entered.ensures.moves in
+    inr (Enters refl moves.given moves.left (ap lexers_of moves.outer ∙ lexers_more before.outer _) moves.room)
+
+pub returns-clause-goes_on : goal.returns-clause-goes_on
+returns-clause-goes_on g c =
+    let same : c.include.new.self ≡ c.args.self.now.open_files =
+    elim c.match-include-2.branch [
+      | in-Ok-NotThere w ↦ (
+          let is : c.include.result ≡ Ok Included.NotThere = search rules in let moves = rw is at c.include.ensures.moves in moves.0
+          )
+      | in-Ok-TooDeep w ↦ (
+          let is : c.include.result ≡ Ok Included.TooDeep = search rules in let moves = rw is at c.include.ensures.moves in moves.0
+          )
+    ] in
+    inr (Stays refl same)
+
+pub returns-clause-room : goal.returns-clause-room
+returns-clause-room g c =
+    let same : c.include.new.self ≡ c.args.self.now.open_files =
+    elim c.match-include-2.branch [
+      | in-Ok-NotThere w ↦ (
+          let is : c.include.result ≡ Ok Included.NotThere = search rules in let moves = rw is at c.include.ensures.moves in moves.0
+          )
+      | in-Ok-TooDeep w ↦ (
+          let is : c.include.result ≡ Ok Included.TooDeep = search rules in let moves = rw is at c.include.ensures.moves in moves.0
+          )
+    ] in
+    subst (λ (o : Open). HasRoom c.args.self.now.room o) (sym same) c.requires.room

@@ -1,7 +1,6 @@
-use Rattle.std.proofs.Common.{◌≡◌, ◌-◌, suc, false, cond, is_some}
+use Rattle.std.proofs.Common.{◌≡◌, ◌-◌, suc, false, cond, is_some, None}
 use Rattle.inf_devices.specs.Files.{Openings, Sources}
-use Rattle.inf_session.specs.{Choices.chosen, Standing.next_of, Standing.state, Veneer.most_texts, Veneer.supplied}
-use Rattle.inf_ending.specs.Delivered.{Appends}
+use Rattle.inf_session.specs.{Choices.chosen, Promises.Wrote, Standing.next_of, Standing.state, Veneer.most_texts, Veneer.supplied}
 use Rattle.inf_session.proofs.Supplying.{LeadsOn}
 use Rattle.inf_session.proofs.session.Session.supply.Given as goal
 
@@ -13,8 +12,7 @@ invariant-loop-was_read g l = record {
   none : l.was_read ≡ false → is_some (next_of l.self) ≡ false;
   files : l.self.open_files ≡ l.fn.self.open_files;
   setup : l.self.setup ≡ l.fn.self.setup;
-  wrote : Appends g.M.Sink l.fn.messages l.messages;
-  quiet : g.M.Sink.failures l.messages ≡ g.M.Sink.failures l.fn.messages;
+  wrote : Wrote g.M.Sink l.fn.messages l.messages None;
 }
 
 abbrev pub decreases-loop-was_read : goal.decreases-loop-was_read
