@@ -1,10 +1,10 @@
 -- The values of a condition stand for its trees: each known number for a leaf, and each other value for one that is known later.
-use Rattle.std.proofs.Common.{◌≡◌, ◌≤◌, ◌<◌, ◌+◌, ◌-◌, ℕ, zero, suc, List, [], ◌∷◌, ◌++◌, length, reverse, drop, take, Bool, true, false, ◌||◌}
-use Rattle.std.proofs.Common.{◌⊎◌, inl, inr, Option, Some, None, is_some, unwrap_or, refl, sym, ap, subst, ◌∙◌, arith, option_map, append_assoc}
+use Rattle.std.proofs.Common.{◌≡◌, ◌≤◌, ◌+◌, ◌-◌, ℕ, zero, suc, List, [], ◌∷◌, ◌++◌, length, reverse, drop, take, Bool, true, false}
+use Rattle.std.proofs.Common.{◌⊎◌, inl, inr, Option, Some, None, is_some, unwrap_or, refl, sym, ap, ◌∙◌, arith, option_map, append_assoc}
 use Rattle.std.proofs.lemmas.List.{reverse-append}
-use Rattle.std.specs.Prelude.{is_none}
 use Rattle.inf_area.specs.declared.targets.Target.{Target}
-use Rattle.inf_expressions.specs.Folding.{any_holds, any_known, built, folded, folded_single, function_of, holds_known, joined, joined_single, known, number_or, or_known, sensed}
+use Rattle.inf_expressions.specs.Folding.{any_holds, any_known, built, folded, folded_single, function_of, holds_known, joined}
+use Rattle.inf_expressions.specs.Folding.{joined_single, known, number_or, or_known, sensed}
 use Rattle.inf_expressions.specs.Judging.{two_finding, unary_finding, value_finding_of}
 use Rattle.inf_expressions.specs.Numbers.{holds}
 use Rattle.inf_expressions.specs.Origins.{followed, of_leaf}
@@ -14,8 +14,9 @@ use Rattle.inf_expressions.specs.Units.{Gathered, listed, with_two_of, with_unar
 use Rattle.inf_expressions.specs.declared.{findings.Finding.Finding, operators.Binary.Binary, operators.Operand.Operand}
 use Rattle.inf_expressions.specs.declared.{operators.Operation.Operation, operators.Test.Test, operators.Unary.Unary}
 use Rattle.inf_conditionals.specs.Condition.{number_of}
-use Rattle.inf_conditionals.specs.Values.{any_of, holds_by, is_not_zero, is_then, number_unless, single_number, single_value, tested, two_number, two_value}
-use Rattle.inf_conditionals.proofs.Doomed.{AnyDoomed, Wrong, fewer, is_doomed, is_function, is_stuck, or_right, two_none_right, unfolded_stuck, unknown_left}
+use Rattle.inf_conditionals.specs.Values.{any_of, holds_by, is_not_zero, is_then, number_unless, single_number, single_value, tested}
+use Rattle.inf_conditionals.specs.Values.{two_number, two_value}
+use Rattle.inf_conditionals.proofs.Doomed.{Wrong, is_doomed, is_function, is_stuck, or_right, two_none_right, unfolded_stuck, unknown_left}
 
 -- Values
 
@@ -101,11 +102,13 @@ two_free : (op : Binary) (a b : ℕ) (r q : Rooted) → r.tree ≡ leaf a → q.
     two_finding op 0 (seen (alone a)) (seen (alone b)) None ≡ None → two_finding op 0 (seen r) (seen q) None ≡ None
 two_free op a b r q is it e =
     ap (λ t. two_finding op 0 (seen (record { tree = t; origin = r.origin })) (seen q) None) is
-    ∙ ap (λ t. two_finding op 0 (seen (record { tree = leaf a; origin = r.origin })) (seen (record { tree = t; origin = q.origin })) None) it
+    ∙ ap (λ t. two_finding op 0 (seen (record { tree = leaf a; origin = r.origin }))
+    (seen (record { tree = t; origin = q.origin })) None) it
     ∙ two_moved op a b r q e
 
 some_moved : (op : Binary) (a b : ℕ) (r q : Rooted) → is_some (two_finding op 0 (seen (alone a)) (seen (alone b)) None) ≡ true →
-    is_some (two_finding op 0 (seen (record { tree = leaf a; origin = r.origin })) (seen (record { tree = leaf b; origin = q.origin })) None)
+    is_some (two_finding op 0 (seen (record { tree = leaf a; origin = r.origin }))
+    (seen (record { tree = leaf b; origin = q.origin })) None)
     ≡ true
 some_moved Binary.Assign a b r q e = refl
 some_moved (Binary.Operation Operation.Divide) a b r q e = e

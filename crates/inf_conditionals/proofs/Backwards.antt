@@ -1,5 +1,6 @@
 -- The latest values of a list that grows at its end.
-use Rattle.std.proofs.Common.{◌≡◌, ◌≤◌, ◌+◌, ◌-◌, ℕ, suc, List, [], ◌∷◌, ◌++◌, length, reverse, drop, take, get_or, Bool, Option, None, sym, ap, ◌∙◌, arith}
+use Rattle.std.proofs.Common.{◌≡◌, ◌≤◌, ◌+◌, ◌-◌, ℕ, suc, List, [], ◌∷◌, ◌++◌, length, reverse, drop, take, get_or, Bool, Option, None}
+use Rattle.std.proofs.Common.{sym, ap, ◌∙◌, arith}
 use Rattle.std.proofs.Common.{drop_of_length-le}
 use Rattle.std.proofs.Math.Seq.{drop-append_seam, take-append_seam, take-suc}
 use Rattle.std.proofs.lemmas.List.{length-drop, length-reverse, reverse-append, reverse-reverse, take-append-drop}
@@ -40,7 +41,8 @@ pub test_behind : (sense : Bool) (test : Test) (n j : ℕ) (xs : List (Option �
     with_value (tested sense test (get_or xs j None) (drop (suc j) xs)) (reverse (take j xs)) t
     ≡ tested_behind sense test (drop n (reverse xs)) (reverse (take n (reverse xs))) t
 test_behind sense test n j xs t all =
-    ap (λ (l : List (Option ℕ)). with_value (tested sense test (get_or xs j None) l) (reverse (take j xs)) t) (sym (take_back n (suc j) xs all))
+    ap (λ (l : List (Option ℕ)). with_value (tested sense test (get_or xs j None) l) (reverse (take j xs)) t)
+    (sym (take_back n (suc j) xs all))
     ∙ ap (λ (l : List (Option ℕ)). tested_behind sense test l (reverse (take n (reverse xs))) t) (sym (front_back n j xs all))
 
 pub test_past : (sense : Bool) (test : Test) (n : ℕ) (xs : List (Option ℕ)) (t : Truth) → length xs ≤ n →

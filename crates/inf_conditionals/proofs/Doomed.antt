@@ -1,16 +1,21 @@
 -- Conditions that cannot be true any more: something in them is wrong, or a tree is no constant, and it is part of every tree to come.
-use Rattle.std.proofs.Common.{◌≡◌, ◌≤◌, ◌<◌, ◌+◌, ◌-◌, ℕ, zero, suc, List, [], ◌∷◌, ◌++◌, length, reverse, Bool, true, false, ◌||◌, ◌&&◌, ◌==◌, not, nat_lt}
+use Rattle.std.proofs.Common.{◌≡◌, ◌≤◌, ◌<◌, ◌+◌, ◌-◌, ℕ, zero, suc, List, [], ◌∷◌, ◌++◌, length, reverse, Bool, true, false, ◌||◌, ◌&&◌}
 use Rattle.std.proofs.Common.{◌⊎◌, inl, inr, Option, Some, None, is_some, refl, sym, ap, ◌∙◌, if◌then◌else◌, arith, subst}
 use Rattle.std.proofs.lemmas.List.{reverse-append}
-use Rattle.inf_expressions.specs.Folding.{any_holds, any_known, built, folded, folded_single, folded_two, function_of, holds_known, joined, joined_single, known, number_or, or_known, operator_of, sensed}
-use Rattle.inf_expressions.specs.Judging.{constant_finding, division_finding, is_known, is_zero, leaf_finding, root_finding, target_finding_of, two_finding, unary_finding, value_finding, value_finding_of, values_finding}
+use Rattle.inf_expressions.specs.Folding.{any_holds, any_known, built, folded, folded_single, folded_two, function_of, holds_known}
+use Rattle.inf_expressions.specs.Folding.{joined, joined_single, known, number_or, or_known, sensed}
+use Rattle.inf_expressions.specs.Judging.{constant_finding, is_known, is_zero, leaf_finding, root_finding, target_finding_of, two_finding}
+use Rattle.inf_expressions.specs.Judging.{unary_finding, value_finding, value_finding_of, values_finding}
 use Rattle.inf_expressions.specs.Findings.{is_before, least, no_constant, out_of_range, wrong_kind}
-use Rattle.inf_expressions.specs.Rooted.{Rooted, begun, bracketed_latest, kind_of, nobody, seen, seen_latest, seen_two, with_leaf, with_two, with_unary}
+use Rattle.inf_expressions.specs.Rooted.{Rooted, bracketed_latest, kind_of, nobody, seen, with_two}
 use Rattle.inf_expressions.specs.Trees.{Leaf, One, Tree, Two}
-use Rattle.inf_expressions.specs.Units.{Gathered, call_joined, called, listed, roots_finding, with_brackets, with_operand, with_two_of, with_unary_of}
+use Rattle.inf_expressions.specs.Units.{Gathered, call_joined, listed, roots_finding, with_brackets, with_operand, with_two_of}
+use Rattle.inf_expressions.specs.Units.{with_unary_of}
 use Rattle.inf_expressions.specs.declared.{findings.Finding.Finding, operators.Binary.Binary}
 use Rattle.inf_conditionals.specs.Values.{is_then}
-use Rattle.inf_expressions.specs.declared.{operators.Function.Function, operators.Operand.Operand, operators.Operation.Operation, operators.PropertyPart.PropertyPart, operators.Test.Test, operators.Unary.Unary, units.Wanted.Wanted}
+use Rattle.inf_expressions.specs.declared.{operators.Function.Function, operators.Operand.Operand, operators.Operation.Operation}
+use Rattle.inf_expressions.specs.declared.{operators.PropertyPart.PropertyPart, operators.Test.Test, operators.Unary.Unary}
+use Rattle.inf_expressions.specs.declared.{units.Wanted.Wanted}
 
 -- Findings stay
 
@@ -368,7 +373,8 @@ pub joined_call : (unit given : ℕ) (trees : List Rooted) (f : Option Finding) 
 joined_call unit given [] f two = absurd (omega (arith, two))
 joined_call unit given (b ∷ []) f two = absurd (omega (arith, two))
 joined_call unit given (b ∷ a ∷ trees) f two =
-    inr (inl (or_right (is_function (joined Binary.Call a.tree b.tree)) (is_stuck (joined Binary.Call a.tree b.tree)) (call_stuck a.tree b.tree)))
+    inr (inl (or_right (is_function (joined Binary.Call a.tree b.tree)) (is_stuck (joined Binary.Call a.tree b.tree))
+    (call_stuck a.tree b.tree)))
 
 call_known : (n : Option ℕ) (t : Tree) → is_stuck (number_or (folded_single Unary.Call n) (One Unary.Call t)) ≡ true
 call_known None t = refl
@@ -428,7 +434,8 @@ doomed_reverse : (trees : List Rooted) → AnyDoomed trees → AnyDoomed (revers
 doomed_reverse [] any = any
 doomed_reverse (r ∷ trees) any = elim any [
   | inl doomed ↦ subst AnyDoomed (sym (reverse-append (r ∷ []) trees)) (doomed_append (reverse trees) (r ∷ []) (inr (inl doomed)))
-  | inr others ↦ subst AnyDoomed (sym (reverse-append (r ∷ []) trees)) (doomed_append (reverse trees) (r ∷ []) (inl (doomed_reverse trees others)))
+  | inr others ↦ subst AnyDoomed (sym (reverse-append (r ∷ []) trees))
+      (doomed_append (reverse trees) (r ∷ []) (inl (doomed_reverse trees others)))
 ]
 
 pub wrong_found : (g : Gathered) → Wrong g → is_some (roots_finding Wanted.Constant 0 (reverse g.trees) g.finding) ≡ true

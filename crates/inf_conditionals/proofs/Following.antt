@@ -1,6 +1,7 @@
 -- The truth of a condition so far follows its unit, action by action and token by token.
-use Rattle.std.proofs.Common.{◌≡◌, ◌≤◌, ◌<◌, ◌+◌, ◌-◌, ◌==◌, ℕ, zero, suc, List, [], ◌∷◌, ◌++◌, length, reverse, drop, take, map, Bool, true, false}
-use Rattle.std.proofs.Common.{◌||◌, not, ◌⊎◌, inl, inr, Option, Some, None, is_some, refl, sym, ap, subst, ◌∙◌, arith, if◌then◌else◌, append_assoc}
+use Rattle.std.proofs.Common.{◌≡◌, ◌+◌, ◌-◌, ◌==◌, ℕ, zero, suc, List, [], ◌∷◌, ◌++◌, length, reverse, drop, take, map, Bool, true, false}
+use Rattle.std.proofs.Common.{◌||◌, not, ◌⊎◌, inl, inr, Option, Some, None, is_some, refl, sym, ap, subst, ◌∙◌, arith, if◌then◌else◌}
+use Rattle.std.proofs.Common.{append_assoc}
 use Rattle.std.proofs.Common.{slice_get, option_map, unwrap_or}
 use Rattle.std.proofs.lemmas.List.{append-nil, length-append}
 use Rattle.inf_scanner.specs.declared.{tokens.Place.Place, tokens.TokenKind.TokenKind}
@@ -11,28 +12,36 @@ use Rattle.inf_expressions.specs.Judging.{constant_finding, value_finding_of}
 use Rattle.inf_expressions.specs.Rooted.{Rooted, bracketed_latest, kind_of}
 use Rattle.inf_expressions.specs.Findings.{wrong_kind}
 use Rattle.std.specs.Prelude.{is_none}
-use Rattle.inf_expressions.specs.Units.{Gathered, acted as judged_by, gathered, nothing_gathered, roots_finding, with_brackets, with_operand, with_two_of, with_unary_of}
-use Rattle.inf_expressions.specs.declared.{findings.Finding.Finding, operators.Binary.Binary, operators.Operand.Operand, operators.Test.Test}
+use Rattle.inf_expressions.specs.Units.{Gathered, acted as judged_by, gathered, nothing_gathered, roots_finding, with_brackets}
+use Rattle.inf_expressions.specs.Units.{with_operand, with_two_of, with_unary_of}
+use Rattle.inf_expressions.specs.declared.{findings.Finding.Finding, operators.Binary.Binary, operators.Operand.Operand}
+use Rattle.inf_expressions.specs.declared.{operators.Test.Test}
 use Rattle.inf_expressions.specs.declared.{operators.Unary.Unary, symbols.Symbol.Symbol, units.Wanted.Wanted}
 use Rattle.inf_gathering.specs.declared.gathering.{Leaf.Leaf as Read}
 use Rattle.inf_gathering.specs.Gatherings.{Gathering, beginning, closed_by, comma, latest, one_more, with_leaf as leaf_gathered}
 use Rattle.inf_names.specs.Symbols.{Table}
 use Rattle.inf_output.specs.Output.{Out}
 use Rattle.inf_operands.specs.Operands.{looked_action, system_operand}
-use Rattle.inf_unit.specs.{Roles.role_of, Tokens.SourceToken, Tokens.atom_of, Tokens.name_of, Units.Unit as Spoken, Units.acted as unit_acted}
-use Rattle.inf_unit.specs.Units.{bytes_of, depth_behind, is_alone, kind_at, last_leaf, leaf_of, marked_from, no_unit, noted as unit_noted, order, played as unit_played}
+use Rattle.inf_unit.specs.{Roles.role_of, Tokens.SourceToken, Tokens.atom_of, Tokens.name_of, Units.Unit as Spoken}
+use Rattle.inf_unit.specs.{Units.acted as unit_acted}
+use Rattle.inf_unit.specs.Units.{bytes_of, depth_behind, is_alone, kind_at, last_leaf, leaf_of, marked_from, no_unit, noted as unit_noted}
+use Rattle.inf_unit.specs.Units.{order, played as unit_played}
 use Rattle.inf_unit.specs.Units.{stepped as unit_stepped, taken, told_leaf, with_last}
 use Rattle.inf_unit.specs.declared.{roles.Note.Note, roles.Role.Role, steps.GatherStep.GatherStep}
-use Rattle.inf_conditionals.specs.Condition.{Condition, all_acted as unit_all_acted, condition_begun, condition_took, is_true_by, number_of, tree_in, verdict_of, verdict_with}
+use Rattle.inf_conditionals.specs.Condition.{Condition, all_acted as unit_all_acted, condition_begun, condition_took, is_true_by}
+use Rattle.inf_conditionals.specs.Condition.{number_of, tree_in, verdict_of, verdict_with}
 use Rattle.inf_conditionals.specs.{Operands.operand_behind, Operands.operands_of, ReadAgain.all_taken}
 use Rattle.inf_conditionals.specs.Values.{is_then, single_value, tested, two_value}
-use Rattle.inf_conditionals.specs.Truths.{Reading, Truth, acted, all_acted, all_read, called_behind, is_never, is_plain, no_truth, noted, number_in, odd}
+use Rattle.inf_conditionals.specs.Truths.{Reading, Truth, acted, all_acted, all_read, called_behind, is_never, no_truth, noted, number_in}
+use Rattle.inf_conditionals.specs.Truths.{odd}
 use Rattle.inf_conditionals.specs.Truths.{played, reading_begun, reading_took, single_taken, stepped, stepped_behind, test_of, test_taken}
-use Rattle.inf_conditionals.specs.Truths.{tested_behind, token_operand, truth_by, truth_in, truth_of, two_taken, with_leaf, with_value, without_list}
-use Rattle.inf_conditionals.proofs.Doomed.{Wrong, least_some, wrong_brackets, wrong_found, wrong_leaf}
+use Rattle.inf_conditionals.specs.Truths.{tested_behind, token_operand, truth_by, truth_in, truth_of, two_taken, with_leaf, with_value}
+use Rattle.inf_conditionals.specs.Truths.{without_list}
+use Rattle.inf_conditionals.proofs.Doomed.{least_some, wrong_brackets, wrong_found, wrong_leaf}
 use Rattle.inf_conditionals.proofs.Alive.{AreValues, Stands, as_many, test_op}
 use Rattle.inf_conditionals.proofs.Standing.{call_stands, single_stands, test_stands, two_stands}
-use Rattle.inf_conditionals.proofs.Gatherings.{AreIn, action_is, ahead_more, ahead_of, all_in_more, gathered_append, gathered_same, in_append}
+use Rattle.inf_conditionals.proofs.Gatherings.{AreIn, action_is, ahead_more, ahead_of, all_in_more, gathered_append, gathered_same}
+use Rattle.inf_conditionals.proofs.Gatherings.{in_append}
 use Rattle.inf_conditionals.proofs.Gatherings.{last_operand, leaf_is, operands_count, operands_more, system_is}
 
 -- the trees and the finding of a condition so far, which has these tokens as a whole
@@ -45,7 +54,8 @@ LastIs None tokens so_far = Unit {0}
 LastIs (Some t) tokens so_far = (slice_get tokens (length so_far - 1) ≡ Some t) × (kind_at so_far (length so_far - 1) ≡ Some t.kind)
 
 -- The truth follows a unit, of whose tokens as a whole some are left.
-pub record Follows (declared : ℕ) (o : Out) (tokens left : List SourceToken) (last : Option SourceToken) (u : Spoken) (t : Truth) : Type 0 where
+pub record Follows (declared : ℕ) (o : Out) (tokens left : List SourceToken) (last : Option SourceToken) (u : Spoken)
+    (t : Truth) : Type 0 where
   pub whole : tokens ≡ u.tokens ++ left
   pub ends : LastIs last tokens u.tokens
   pub goes_on : u.is_over ≡ false
@@ -130,7 +140,8 @@ single_goes : (declared : ℕ) (o : Out) (tokens left : List SourceToken) (last 
 single_goes declared o tokens left last u t op front s firsts [] f is are means = inl refl
 single_goes declared o tokens left last u t op front s firsts (a ∷ values) f is are means =
     let v = single_value op a in
-    inr (grown declared o tokens left last u t (with_value v values t) (s ∷ []) firsts u.gathering.counts u.gathering.brackets f are f.counts refl
+    inr (grown declared o tokens left last u t (with_value v values t)
+    (s ∷ []) firsts u.gathering.counts u.gathering.brackets f are f.counts refl
     (subst (λ (x : Gathered). Stands (t.is_false || is_none v) (v ∷ values) x) (sym (means (now_of declared o tokens u.gathering)))
     (single_stands t.is_false op front a values (now_of declared o tokens u.gathering) v
     (subst (λ (l : List (Option ℕ)). Stands t.is_false l (now_of declared o tokens u.gathering)) is f.stands) refl)))
@@ -192,7 +203,8 @@ brackets_stand false values order g stands = (bracket_values values order g.tree
 closed_goes : (declared : ℕ) (o : Out) (tokens left : List SourceToken) (last : Option SourceToken) (u : Spoken) (t : Truth)
     (brackets : List ℕ) → Follows declared o tokens left last u t →
     Follows declared o tokens left last (record u { gathering = closed_by brackets u.gathering }) t
-closed_goes declared o tokens left last u t [] f = kept declared o tokens left last u t u.gathering.firsts u.gathering.counts u.gathering.brackets t.counts f f.counts
+closed_goes declared o tokens left last u t [] f = kept declared o tokens left last u t u.gathering.firsts u.gathering.counts
+    u.gathering.brackets t.counts f f.counts
 closed_goes declared o tokens left last u t (order ∷ brackets) f =
     grown declared o tokens left last u t t (Symbol.Bracketed order ∷ []) (beginning order u.gathering.firsts) u.gathering.counts brackets f
     (tt, tt) f.counts refl (brackets_stand t.is_false t.values order (now_of declared o tokens u.gathering) f.stands)
@@ -293,8 +305,10 @@ test_by_op : (declared : ℕ) (o : Out) (tokens left : List SourceToken) (last :
         brackets = u.gathering.brackets;
       };
     }) (without_list (test_taken op count t))
-test_by_op declared o tokens left last u t (Binary.Test test) count firsts f = test_goes declared o tokens left last u t true test count firsts f
-test_by_op declared o tokens left last u t (Binary.Fails test) count firsts f = test_goes declared o tokens left last u t false test count firsts f
+test_by_op declared o tokens left last u t (Binary.Test test) count firsts f = test_goes declared o tokens left last u t true test count
+    firsts f
+test_by_op declared o tokens left last u t (Binary.Fails test) count firsts f = test_goes declared o tokens left last u t false test
+    count firsts f
 test_by_op declared o tokens left last u t op count firsts f = inl refl
 
 -- Leaves
@@ -372,7 +386,8 @@ step_goes declared o tokens left token GatherStep.System u t f =
     (t.ahead, system_operand (bytes_of (name_of token)) o.code.scale) f (system_is declared o tokens at token t.ahead f.ends.0))
 step_goes declared o tokens left token (GatherStep.Prefix op) u t f =
     let order = latest u.gathering.firsts - 1 in
-    single_goes declared o tokens left (Some token) u t op (Some order) (Symbol.Prefix order op) (beginning order u.gathering.firsts) t.values f
+    single_goes declared o tokens left (Some token) u t op (Some order) (Symbol.Prefix order op)
+    (beginning order u.gathering.firsts) t.values f
     refl (tt, tt) (λ g. refl)
 step_goes declared o tokens left token (GatherStep.Suffix op) u t f =
     single_goes declared o tokens left (Some token) u t op None (Symbol.Suffix op) u.gathering.firsts t.values f refl (tt, tt) (λ g. refl)
@@ -386,7 +401,8 @@ step_goes declared o tokens left token GatherStep.List u t f =
     inr (kept declared o tokens left (Some token) u t u.gathering.firsts (0 ∷ u.gathering.counts) u.gathering.brackets (0 ∷ t.counts) f
     (ap (λ (l : List ℕ). 0 ∷ l) f.counts))
 step_goes declared o tokens left token GatherStep.Part u t f =
-    inr (kept declared o tokens left (Some token) u t u.gathering.firsts (one_more u.gathering.counts) u.gathering.brackets (one_more t.counts) f
+    inr (kept declared o tokens left (Some token) u t u.gathering.firsts (one_more u.gathering.counts) u.gathering.brackets
+    (one_more t.counts) f
     (ap one_more f.counts))
 step_goes declared o tokens left token GatherStep.Call u t f =
     let given = latest u.gathering.counts in
@@ -398,7 +414,8 @@ step_goes declared o tokens left token (GatherStep.Test op) u t f =
     (ap latest f.counts)
     (test_by_op declared o tokens left (Some token) u t op parts (drop parts u.gathering.firsts) f)
 step_goes declared o tokens left token GatherStep.Bracket u t f =
-    inr (kept declared o tokens left (Some token) u t u.gathering.firsts u.gathering.counts (order (length u.tokens - 1) ∷ u.gathering.brackets)
+    inr (kept declared o tokens left (Some token) u t u.gathering.firsts u.gathering.counts
+    (order (length u.tokens - 1) ∷ u.gathering.brackets)
     t.counts f f.counts)
 step_goes declared o tokens left token GatherStep.Bracketed u t f =
     inr (closed_goes declared o tokens left (Some token) u t u.gathering.brackets f)
@@ -426,7 +443,8 @@ outer_goes declared o tokens left last outer sure u t f = record {
 
 note_goes : (declared : ℕ) (o : Out) (tokens left : List SourceToken) (last : Option SourceToken) (n : Note) (u : Spoken) (t : Truth) →
     Follows declared o tokens left last u t → Goes declared o tokens left last (unit_noted n u) (noted n t)
-note_goes declared o tokens left last (Note.Outer sure) u t f = inr (outer_goes declared o tokens left last (Some (length u.tokens)) sure u t f)
+note_goes declared o tokens left last (Note.Outer sure) u t f = inr
+    (outer_goes declared o tokens left last (Some (length u.tokens)) sure u t f)
 note_goes declared o tokens left last Note.OuterWord u t f = inr (outer_goes declared o tokens left last (Some (last_leaf u)) true u t f)
 note_goes declared o tokens left last Note.OuterSure u t f = inr (outer_goes declared o tokens left last u.outer true u t f)
 note_goes declared o tokens left last Note.OuterEnd u t f = inr (outer_goes declared o tokens left last None u.is_sure u t f)
@@ -476,7 +494,8 @@ took_follows declared o tokens left last token u t f =
     let new = u.tokens ++ token ∷ [] in
     let place : length new - 1 ≡ length u.tokens = omega (arith, length-append u.tokens (token ∷ [])) in
     subst (λ x. Follows declared o tokens left (Some token)
-    (if x then record u { is_over = false } else record u { tokens = new; depth = depth_behind token.kind u.depth }) t) (sym f.goes_on) (record {
+    (if x then record u { is_over = false } else record u { tokens = new; depth = depth_behind token.kind u.depth }) t) (sym f.goes_on)
+    (record {
       whole = f.whole ∙ sym (append_assoc u.tokens (token ∷ []) left);
       ends = (
         ap (λ i. slice_get tokens i) place ∙ ap (λ (l : List SourceToken). slice_get l (length u.tokens)) f.whole
@@ -544,11 +563,14 @@ verdict_alive (v ∷ []) [] f b are none e = absurd are
 verdict_alive (v ∷ []) (r ∷ q ∷ trees) f b are none e = absurd are.1
 verdict_alive ((Some n) ∷ []) (r ∷ []) f b are none e =
     sym (same_bool (not (n == 0)) b e)
-    ∙ sym (ap (λ x. is_true_by (number_of (x ∷ [])) (constant_finding 0 (kind_of x) (value_finding_of (kind_of x) r.origin.token None))) are.0)
-    ∙ sym (ap (λ x. is_true_by (number_of (r.tree ∷ [])) (constant_finding 0 (kind_of r.tree) (value_finding_of (kind_of r.tree) r.origin.token x))) none)
+    ∙ sym (ap (λ x. is_true_by (number_of (x ∷ [])) (constant_finding 0 (kind_of x) (value_finding_of (kind_of x) r.origin.token None)))
+    are.0)
+    ∙ sym (ap (λ x. is_true_by (number_of (r.tree ∷ [])) (constant_finding 0 (kind_of r.tree)
+    (value_finding_of (kind_of r.tree) r.origin.token x))) none)
 verdict_alive (None ∷ []) (r ∷ []) f b are none e =
     sym (same_bool false b e)
-    ∙ sym (ap (λ x. is_true_by (number_of (x ∷ [])) (constant_finding 0 (kind_of x) (value_finding_of (kind_of x) r.origin.token f))) are.0.1)
+    ∙ sym (ap (λ x. is_true_by (number_of (x ∷ [])) (constant_finding 0 (kind_of x) (value_finding_of (kind_of x) r.origin.token f)))
+    are.0.1)
 
 verdict_is : (f : Bool) (values : List (Option ℕ)) (g : Gathered) (b : Bool) → Stands f values g →
     (if f then Some false else truth_by values) ≡ Some b →

@@ -1,17 +1,17 @@
 -- The symbols and the operands of a condition that is still being read.
-use Rattle.std.proofs.Common.{◌≡◌, ◌≤◌, ◌<◌, ◌+◌, ◌-◌, ℕ, zero, suc, List, [], ◌∷◌, ◌++◌, length, Bool, true, false, get_or}
-use Rattle.std.proofs.Common.{Option, Some, None, refl, sym, ap, subst, ◌∙◌, arith, append_assoc, slice_get, option_map}
+use Rattle.std.proofs.Common.{◌≡◌, ◌<◌, ◌+◌, ◌-◌, ℕ, List, [], ◌∷◌, ◌++◌, length, Bool, true, false}
+use Rattle.std.proofs.Common.{Option, Some, refl, sym, ap, ◌∙◌, arith, slice_get}
 use Rattle.std.proofs.Math.ListN.{get_or-append}
 use Rattle.std.proofs.Math.Seq.{get_or-append_seam}
 use Rattle.std.proofs.lemmas.List.{length-append}
 use Rattle.inf_scanner.specs.declared.{tokens.Place.Place, tokens.TokenKind.TokenKind}
-use Rattle.inf_expressions.specs.Units.{Gathered, acted, gathered, nothing_gathered, operand_at, with_operand}
+use Rattle.inf_expressions.specs.Units.{Gathered, acted, gathered, operand_at, with_operand}
 use Rattle.inf_expressions.specs.declared.{operators.Operand.Operand, symbols.Symbol.Symbol, units.Wanted.Wanted}
 use Rattle.inf_gathering.specs.declared.gathering.Leaf.{Leaf}
 use Rattle.inf_names.specs.Symbols.{Table, no_names}
 use Rattle.inf_output.specs.Output.{Out}
 use Rattle.inf_operands.specs.Operands.{looked_action, system_operand}
-use Rattle.inf_unit.specs.{Tokens.SourceToken, Tokens.name_of, Units.bytes_of, Units.kind_at, Units.leaf_of, Units.name_by, Units.told_leaf}
+use Rattle.inf_unit.specs.{Tokens.SourceToken, Tokens.name_of, Units.bytes_of, Units.leaf_of, Units.name_by, Units.told_leaf}
 use Rattle.inf_conditionals.specs.Operands.{bytes_of as bytes_by, leaf_operand, name_operand, operand_behind, operands_from, operands_of}
 use Rattle.inf_conditionals.specs.Truths.{token_operand}
 
@@ -90,7 +90,8 @@ ahead_more declared o tokens leaves l = ahead_from declared o tokens leaves l (n
 
 more_from : (declared : ℕ) (o : Out) (tokens : List SourceToken) (leaves : List Leaf) (l : Leaf) (ahead : Table Place)
     (ops : List Operand) → operands_from declared o tokens (leaves ++ l ∷ []) ahead ops
-    ≡ operands_from declared o tokens leaves ahead ops ++ (operand_behind declared o tokens l (ahead_behind declared o tokens leaves ahead)).1 ∷ []
+    ≡ operands_from declared o tokens leaves ahead ops ++ (operand_behind declared o tokens l
+    (ahead_behind declared o tokens leaves ahead)).1 ∷ []
 more_from declared o tokens [] l ahead ops = refl
 more_from declared o tokens (x ∷ leaves) l ahead ops =
     let s = operand_behind declared o tokens x ahead in more_from declared o tokens leaves l s.0 (ops ++ s.1 ∷ [])

@@ -1,12 +1,13 @@
 -- The parts of a condition that are up to date.
-use Rattle.std.proofs.Common.{◌≡◌, ◌∷◌, ◌++◌, [], ℕ, List, Bool, Some, true, false, refl, sym, ap, subst, ◌∙◌, ◌⊎◌, inl, inr}
+use Rattle.std.proofs.Common.{◌≡◌, ◌∷◌, ◌++◌, [], ℕ, List, Bool, Some, true, refl, sym, ap, subst, ◌∙◌, ◌⊎◌, inl, inr}
 use Rattle.inf_machine.specs.{Machine.fits, Machine.taken as read, declared.symbols.Symbol.Symbol}
 use Rattle.inf_syntax.specs.declared.actions.Action.{Action}
 use Rattle.inf_grammar.specs.Language.{grammar, known}
 use Rattle.inf_output.specs.Output.{Out}
 use Rattle.inf_unit.specs.{Tokens.SourceToken, Tokens.atom_of, Units.Unit as Spoken}
 use Rattle.inf_conditionals.specs.Condition.{Condition, condition_begun, condition_took, verdict_of}
-use Rattle.inf_conditionals.specs.{Held.IsHeld, Held.condition_by, Held.has_tokens, Held.unfolded, Truths.truth_of, declared.condition.Held.Held}
+use Rattle.inf_conditionals.specs.{Held.IsHeld, Held.condition_by, Held.has_tokens, Held.unfolded, Truths.truth_of}
+use Rattle.inf_conditionals.specs.{declared.condition.Held.Held}
 use Rattle.inf_conditionals.specs.ReadAgain.{IsReadBy, all_fit, all_taken, condition_at}
 use Rattle.inf_conditionals.proofs.{Following.truth_is, Waiting.read_by_more, Waiting.taken_more}
 
@@ -15,13 +16,15 @@ pub either_there : (h : Held) → (h ≡ Held.Both) ⊎ (h ≡ Held.Tokens) → 
 either_there h is = elim is [ inl both ↦ ap has_tokens both | inr alone ↦ ap has_tokens alone ]
 
 -- the unit is brought up to date
-pub unfolded_held : (h : Held) (stack : List (Symbol Action)) (u : Spoken) (ts : List SourceToken) (left : List (Symbol Action)) (new : Spoken) →
+pub unfolded_held : (h : Held) (stack : List (Symbol Action)) (u : Spoken) (ts : List SourceToken) (left : List (Symbol Action))
+    (new : Spoken) →
     IsHeld h stack u ts → condition_at left new ≡ condition_by h stack u ts → IsHeld (unfolded h) left new ts
 unfolded_held Held.Both stack u ts left new held is = (held.0, is ∙ held.1)
 unfolded_held Held.Tokens stack u ts left new held is = (held.0, is)
 unfolded_held Held.Unit stack u ts left new held is = tt
 
-pub unfolded_view : (h : Held) (stack : List (Symbol Action)) (u : Spoken) (ts : List SourceToken) (left : List (Symbol Action)) (new : Spoken) →
+pub unfolded_view : (h : Held) (stack : List (Symbol Action)) (u : Spoken) (ts : List SourceToken) (left : List (Symbol Action))
+    (new : Spoken) →
     condition_at left new ≡ condition_by h stack u ts → condition_by (unfolded h) left new ts ≡ condition_by h stack u ts
 unfolded_view Held.Both stack u ts left new is = is
 unfolded_view Held.Tokens stack u ts left new is = is

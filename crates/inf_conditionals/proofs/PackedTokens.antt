@@ -1,6 +1,6 @@
 -- Tokens in little memory, one more behind others and one less in front.
-use Rattle.std.proofs.Common.{◌≡◌, ◌≤◌, ◌<◌, ◌+◌, ◌-◌, ◌%◌, ℕ, zero, suc, List, [], ◌∷◌, ◌++◌, drop, take, length, Bool, true, false, if◌then◌else◌}
-use Rattle.std.proofs.Common.{refl, sym, ap, subst, ◌∙◌, arith, inl, inr, ◌⊎◌}
+use Rattle.std.proofs.Common.{◌≡◌, ◌+◌, ◌-◌, ◌%◌, ℕ, suc, List, [], ◌∷◌, ◌++◌, drop, take, length, Bool, true, false, if◌then◌else◌}
+use Rattle.std.proofs.Common.{refl, sym, ap, subst, ◌∙◌, arith}
 use Rattle.std.proofs.Math.Nat.{mod-eq_of_lt}
 use Rattle.std.proofs.Math.Seq.{drop-length, take-length}
 use Rattle.std.proofs.lemmas.Bool.{ltb-false}
@@ -9,7 +9,7 @@ use Rattle.std.specs.Prelude.{nat_lt}
 use Rattle.inf_scanner.specs.declared.{tokens.Place.Place, tokens.TokenKind.TokenKind}
 use Rattle.inf_unit.specs.{Atoms.is_short, Tokens.SourceToken}
 use Rattle.inf_conditionals.specs.declared.{packed.Beside.Beside, packed.Packed.Packed, packed.ShortKind.ShortKind}
-use Rattle.inf_conditionals.specs.Packed.{ArePacked, IsPacked, beside_of, has_kind, others_left, packed_of, parts_of, short_kind, short_of}
+use Rattle.inf_conditionals.specs.Packed.{ArePacked, beside_of, has_kind, others_left, packed_of, parts_of, short_kind, short_of}
 use Rattle.inf_conditionals.specs.Packed.{token_of, unpacked}
 
 -- A token that is packed by itself
@@ -109,7 +109,8 @@ one_more kind place is_class own (q ∷ ps) beside bytes are =
     let more = beside_of (short_kind kind n) kind n in
     let s = parts_of q.kind q.count beside in
     ap (λ (x : TokenKind × ℕ). token_of x.0 q (take x.1 (bytes ++ own))
-    ∷ unpacked (ps ++ last) (others_left q.kind (beside ++ more)) (drop x.1 (bytes ++ own))) (parts_more q.kind q.count beside more are.0.kind)
+    ∷ unpacked (ps ++ last) (others_left q.kind (beside ++ more)) (drop x.1 (bytes ++ own)))
+    (parts_more q.kind q.count beside more are.0.kind)
     ∙ ap (λ (l : List ℕ). token_of s.0 q l ∷ unpacked (ps ++ last) (others_left q.kind (beside ++ more)) (drop s.1 (bytes ++ own)))
     (take-append-le s.1 bytes own are.0.there)
     ∙ ap (λ (l : List Beside). token_of s.0 q (take s.1 bytes) ∷ unpacked (ps ++ last) l (drop s.1 (bytes ++ own)))
@@ -127,7 +128,8 @@ alone_packed kind place is_class own short =
       record {
         kind = kind_by (nat_lt 255 n) kind n;
         there = omega (arith, ap (λ (s : TokenKind × ℕ). s.1) parts);
-        short = ap (λ (s : TokenKind × ℕ). is_short s.0 (take s.1 own)) parts ∙ ap (λ (l : List ℕ). is_short kind l) (take-length own) ∙ short;
+        short = ap (λ (s : TokenKind × ℕ). is_short s.0 (take s.1 own)) parts ∙ ap (λ (l : List ℕ). is_short kind l) (take-length own)
+            ∙ short;
       },
       (
         none_by (nat_lt 255 n) kind n,
@@ -135,7 +137,8 @@ alone_packed kind place is_class own short =
       ),
     )
 
-more_packed : (kind : TokenKind) (place : Place) (is_class : Bool) (own : List ℕ) (ps : List Packed) (beside : List Beside) (bytes : List ℕ) →
+more_packed : (kind : TokenKind) (place : Place) (is_class : Bool) (own : List ℕ) (ps : List Packed) (beside : List Beside)
+    (bytes : List ℕ) →
     is_short kind own ≡ true → ArePacked ps beside bytes → let n = length own in
     ArePacked (ps ++ packed_of kind place is_class n ∷ []) (beside ++ beside_of (short_kind kind n) kind n) (bytes ++ own)
 more_packed kind place is_class own [] beside bytes short are =

@@ -1,5 +1,5 @@
 -- Names that are no words of conditionals by their length or their first letter, and tokens that only pass in a side that is left out.
-use Rattle.std.proofs.Common.{◌≡◌, ◌<◌, ◌+◌, ◌&&◌, ◌||◌, ℕ, Bool, true, false, not, cond, List, [], ◌∷◌, length, map, get_or, nat_eq}
+use Rattle.std.proofs.Common.{◌≡◌, ◌<◌, ◌+◌, ◌&&◌, ◌||◌, ℕ, Bool, true, false, cond, List, [], ◌∷◌, length, map, get_or, nat_eq}
 use Rattle.std.proofs.Common.{nat_lt, Option, Some, None, slice_get, suc, refl, sym, ap, ◌∙◌, arith, is_none, is_some}
 use Rattle.std.proofs.{Math.Bool.and-false, Math.ListN.get_or-map, lemmas.List.length-map, lemmas.Slice.Eq.bytes_eq-Decides}
 use Rattle.std.proofs.lemmas.Bool.{and_parts, false_from_ne_true, ltb-true}
@@ -78,7 +78,8 @@ long_is_no_word s long =
     && (b && (nat_eq (get_or (lowered s) 0 0) 101 || nat_eq (get_or (lowered s) 0 0) 105))) second
     ∙ and-false (nat_lt 4 (length (lowered s))))
 
-pub other_is_no_word : (s : List ℕ) → (nat_eq (to_ascii_lowercase (get_or s 0 0)) 101 || nat_eq (to_ascii_lowercase (get_or s 0 0)) 105) ≡ false
+pub other_is_no_word : (s : List ℕ) → (nat_eq (to_ascii_lowercase (get_or s 0 0)) 101 || nat_eq (to_ascii_lowercase (get_or s 0 0)) 105)
+    ≡ false
     → word_of (keyword_of s) ≡ None
 other_is_no_word s other =
     let letter = ap (λ (n : ℕ). nat_eq n 101 || nat_eq n 105) (get_or-map to_ascii_lowercase s 0 0) ∙ other in

@@ -1,19 +1,19 @@
 -- The values of a condition stand for its trees behind each operator.
-use Rattle.std.proofs.Common.{◌≡◌, ◌≤◌, ◌<◌, ◌+◌, ◌-◌, ℕ, zero, suc, List, [], ◌∷◌, ◌++◌, length, reverse, drop, take, Bool, true, false, ◌||◌}
-use Rattle.std.proofs.Common.{◌⊎◌, inl, inr, Option, Some, None, refl, sym, ap, subst, ◌∙◌, arith, if◌then◌else◌}
+use Rattle.std.proofs.Common.{◌≡◌, ◌≤◌, ◌<◌, ◌-◌, ℕ, zero, suc, List, [], ◌∷◌, length, reverse, drop, take, Bool, true, false, ◌||◌}
+use Rattle.std.proofs.Common.{inl, inr, Option, Some, None, refl, sym, ap, subst, ◌∙◌, arith, if◌then◌else◌}
 use Rattle.std.proofs.Math.Dec.{eqb-suc-zero}
 use Rattle.std.proofs.lemmas.List.{append-nil, length-drop}
 use Rattle.std.specs.Prelude.{is_none}
-use Rattle.inf_expressions.specs.Folding.{built, folded, function_of, joined, number_or}
-use Rattle.inf_expressions.specs.Judging.{two_finding, value_finding_of}
-use Rattle.inf_expressions.specs.Origins.{followed}
-use Rattle.inf_expressions.specs.Rooted.{Rooted, kind_of, seen, with_two, with_unary}
+use Rattle.inf_expressions.specs.Folding.{built, function_of, joined, number_or}
+use Rattle.inf_expressions.specs.Judging.{value_finding_of}
+use Rattle.inf_expressions.specs.Rooted.{Rooted, kind_of, with_unary}
 use Rattle.inf_expressions.specs.Units.{Gathered, call_joined, called, listed, with_two_of, with_unary_of}
 use Rattle.inf_expressions.specs.declared.{findings.Finding.Finding, operators.Binary.Binary, operators.Test.Test, operators.Unary.Unary}
-use Rattle.inf_conditionals.specs.Values.{is_then, single_number, single_value, tested, two_number, two_value}
-use Rattle.inf_conditionals.proofs.Doomed.{AnyDoomed, Wrong, fewer, is_function, is_stuck, joined_call, listed_length, or_right, called_alone, unfolded_stuck}
+use Rattle.inf_conditionals.specs.Values.{is_then, single_value, tested, two_value}
+use Rattle.inf_conditionals.proofs.Doomed.{Wrong, fewer, joined_call, listed_length, called_alone, unfolded_stuck}
 use Rattle.inf_conditionals.proofs.Doomed.{wrong_listed, wrong_two, wrong_unary}
-use Rattle.inf_conditionals.proofs.Alive.{AreValues, Chain, IsValue, Stands, alive_single, alive_two, as_many, chain_one, dead_single, dead_two, doomed_by}
+use Rattle.inf_conditionals.proofs.Alive.{AreValues, Chain, IsValue, Stands, alive_single, alive_two, as_many, chain_one, dead_single}
+use Rattle.inf_conditionals.proofs.Alive.{dead_two, doomed_by}
 use Rattle.inf_conditionals.proofs.Alive.{lists, onto, onto_is, test_found, test_op, test_single, tested_is, value_quiet}
 
 -- as many values as trees
@@ -96,7 +96,8 @@ test_of_first : (sense : Bool) (t : Test) (va : Option ℕ) (c : Rooted) (vs bs 
 test_of_first sense t va c vs bs [] v chain are e = absurd are
 test_of_first sense t va c vs bs (a ∷ trees) v chain are e = test_ends sense t va a c vs bs trees v are.0 chain are.1 e
 
-test_alive : (sense : Bool) (t : Test) (n : ℕ) (va : Option ℕ) (ws vs : List (Option ℕ)) (trees : List Rooted) (f : Option Finding) (v : Option ℕ) →
+test_alive : (sense : Bool) (t : Test) (n : ℕ) (va : Option ℕ) (ws vs : List (Option ℕ)) (trees : List Rooted) (f : Option Finding)
+    (v : Option ℕ) →
     AreValues ws trees → f ≡ None → drop (suc n) ws ≡ va ∷ vs → tested sense t va (reverse (take (suc n) ws)) ≡ v →
     Stands (is_none v) (v ∷ vs) (with_two_of 0 (test_op sense t) (listed 0 n (record { trees = trees; finding = f })))
 test_alive sense t n va [] vs trees f v are none left e = absurd (cc left)

@@ -1,6 +1,6 @@
 -- Conditions that wait, and are read again by their tokens.
-use Rattle.std.proofs.Common.{◌≡◌, ◌≤◌, ◌<◌, ◌-◌, ℕ, suc, List, [], ◌∷◌, ◌++◌, Bool, true, false, ◌&&◌, length, drop, take, reverse, arith}
-use Rattle.std.proofs.Common.{None, Some, inl, inr, refl, sym, ap, subst, ◌∙◌, slice_get, get_or, append_assoc, drop_of_length-le, take_all}
+use Rattle.std.proofs.Common.{◌≡◌, ◌≤◌, ◌-◌, ℕ, suc, List, [], ◌∷◌, ◌++◌, Bool, true, false, ◌&&◌, length, drop, take, reverse, arith}
+use Rattle.std.proofs.Common.{None, Some, inl, inr, refl, sym, ap, subst, ◌∙◌, slice_get, append_assoc, drop_of_length-le, take_all}
 use Rattle.std.proofs.Math.Seq.{drop-append_seam, drop-cons, take-append_seam, take-suc}
 use Rattle.std.proofs.lemmas.List.{length-append}
 use Rattle.std.proofs.lemmas.Option.{get_or_from_slice_get, slice_get_cases, slice_get_within}
@@ -149,7 +149,8 @@ pub waits_short : (ws now : List Waiting) (n : ℕ) (k : Condition) (old new : L
     IsAdded n k old new → waiting_in (reverse now) new ≡ k ∷ waiting_in (reverse ws) old
 waits_short ws now n k old new e a =
     last_waits ws now (Waiting.Short n) new e
-    ∙ ap (λ (l : List SourceToken). all_taken l condition_begun ∷ waiting_in (reverse ws) (take (length new - n) new)) (few_is n k old new a)
+    ∙ ap (λ (l : List SourceToken). all_taken l condition_begun ∷ waiting_in (reverse ws) (take (length new - n) new))
+    (few_is n k old new a)
     ∙ ap (λ (l : List SourceToken). all_taken a.few condition_begun ∷ waiting_in (reverse ws) l) (left_is n k old new a)
     ∙ ap (λ (c : Condition). c ∷ waiting_in (reverse ws) old) (sym a.reads.1)
 

@@ -1,6 +1,7 @@
 -- Whether a condition is true, token by token: the numbers of its expressions so far take the place of its trees. Tokens and actions that
 -- no condition has make it odd.
-use Rattle.std.specs.Prelude.{ℕ, ◌==◌, List, [], ◌∷◌, drop, reverse, take, Bool, true, false, not, ◌||◌, if◌then◌else◌, is_none, Option, Some, None}
+use Rattle.std.specs.Prelude.{ℕ, ◌==◌, List, [], ◌∷◌, drop, reverse, take, Bool, true, false, not, ◌||◌, if◌then◌else◌, is_none, Option}
+use Rattle.std.specs.Prelude.{Some, None}
 use Rattle.inf_scanner.specs.declared.tokens.Place.{Place}
 use Rattle.inf_machine.specs.{Machine.taken as read, declared.symbols.Symbol.Symbol}
 use Rattle.inf_syntax.specs.declared.actions.Action.{Action}

@@ -1,7 +1,7 @@
 -- The values of a condition's expressions, by their numbers: a known number is `Some`, a constant that is known later `None`. Each
 -- operator is judged and computed by itself.
 use Rattle.std.specs.Prelude.{ℕ, ◌==◌, List, [], ◌∷◌, map, Bool, true, false, not, Option, Some, None, option_map}
-use Rattle.inf_expressions.specs.{Folding.or_known, Folding.sensed, Rooted.Rooted, Trees.Leaf, Trees.Tree, Units.judged, Units.trees_of}
+use Rattle.inf_expressions.specs.{Folding.or_known, Folding.sensed, Trees.Leaf, Units.judged, Units.trees_of}
 use Rattle.inf_expressions.specs.declared.{findings.Finding.Finding, operators.Binary.Binary, operators.Operand.Operand}
 use Rattle.inf_expressions.specs.declared.{operators.Test.Test, operators.Unary.Unary, symbols.Symbol.Symbol, units.Wanted.Wanted}
 use Rattle.inf_conditionals.specs.Condition.{number_of, tree_in}

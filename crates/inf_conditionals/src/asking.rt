@@ -5,7 +5,7 @@ ghost use Rattle.inf_grammar.specs.Language.{grammar, known};
 ghost use Rattle.inf_machine.specs.Machine.{fits};
 ghost use Rattle.inf_unit.specs.{Spelled.spelled, Tokens.atom_of};
 
-use crate::condition::{Condition, Steps};
+use crate::condition::{Condition, Steps, spare_or_new};
 use crate::conditionals::Conditionals;
 use crate::filtered::{Filtered, NONE, Site, TAKEN};
 use crate::pending::{Awaits, Effect, Pending};
@@ -54,10 +54,7 @@ impl Conditionals {
     ) -> Result<Filtered, AllocError>
         ensures { IfOk result (λ j. record { now = self.new; judged = j } ≡ asked_first wanted (spelled word.now) is_inner self.old) }
     {
-        let mut condition = match self.spare.take() {
-            Some(spare) => spare,
-            None => Condition::new(self.alloc),
-        };
+        let mut condition = spare_or_new(self.alloc, &mut self.spare)?;
         condition.begin()?;
         if !condition.take(&mut self.steps, word)? {
             return Ok(self.give_up());
@@ -118,10 +115,10 @@ impl Conditionals {
         directive: Pending,
         site: Site,
         token: &SourceToken<'_>,
-        condition: Condition,
+        condition: Box<Condition>,
     ) -> Result<Filtered, AllocError>
         ensures { IfOk result (λ j. record { now = self.new; judged = j } ≡
-            asked_on wanted site (spelled token.now) condition directive self.old) }
+            asked_on wanted site (spelled token.now) condition.value directive self.old) }
     {
         let mut condition = condition;
         self.measure(site, token, &mut condition)?;
@@ -158,10 +155,10 @@ impl Conditionals {
         wanted: bool,
         directive: Pending,
         out: &Output<B>,
-        condition: Condition,
+        condition: Box<Condition>,
     ) -> Result<Filtered, AllocError>
         ensures { IfOk result (λ j. record { now = self.new; judged = j } ≡
-            decided (verdict_of self.old.declared out.now condition) wanted is_quiet condition directive self.old) }
+            decided (verdict_of self.old.declared out.now condition.value) wanted is_quiet condition.value directive self.old) }
     {
         if is_quiet {
             self.decide_quietly(wanted, directive, out, condition)
@@ -176,10 +173,10 @@ impl Conditionals {
         wanted: bool,
         directive: Pending,
         out: &Output<B>,
-        condition: Condition,
+        condition: Box<Condition>,
     ) -> Result<Filtered, AllocError>
         ensures { IfOk result (λ j. record { now = self.new; judged = j } ≡
-            decided (verdict_of self.old.declared out.now condition) wanted false condition directive self.old) }
+            decided (verdict_of self.old.declared out.now condition.value) wanted false condition.value directive self.old) }
     {
         let mut condition = condition;
         let verdict = condition.judge(&mut self.steps, self.declared, out)?;
@@ -194,10 +191,10 @@ impl Conditionals {
         wanted: bool,
         directive: Pending,
         out: &Output<B>,
-        condition: Condition,
+        condition: Box<Condition>,
     ) -> Result<Filtered, AllocError>
         ensures { IfOk result (λ j. record { now = self.new; judged = j } ≡
-            decided (verdict_of self.old.declared out.now condition) wanted true condition directive self.old) }
+            decided (verdict_of self.old.declared out.now condition.value) wanted true condition.value directive self.old) }
     {
         let mut condition = condition;
         let is_true = condition.is_true(&mut self.steps, self.declared, out)?;
@@ -210,10 +207,10 @@ impl Conditionals {
     fn found(
         &mut self,
         directive: Place,
-        condition: Condition,
+        condition: Box<Condition>,
         finding: Option<Finding>,
     ) -> Result<(), AllocError>
-        ensures { OnOk result (self.new ≡ saying false (told_by directive condition finding) self.old) }
+        ensures { OnOk result (self.new ≡ saying false (told_by directive condition.value finding) self.old) }
     {
         let mut condition = condition;
         let unit = condition.take_unit(&mut self.steps)?;
@@ -238,9 +235,9 @@ impl Conditionals {
         place: Place,
         is_inner: bool,
         wanted: bool,
-        condition: Condition,
+        condition: Box<Condition>,
     ) -> Result<(), AllocError>
-        ensures { OnOk result (self.new ≡ asking place is_inner wanted condition self.old) }
+        ensures { OnOk result (self.new ≡ asking place is_inner wanted condition.value self.old) }
     {
         self.conditions.push(condition, &mut self.spare)?;
         self.wait(place, is_inner, Awaits::Condition(wanted))

@@ -311,8 +311,20 @@ impl Condition {
     }
 }
 
-/// Returns whether the condition is true that has `tokens`, where these are up to date, as `held` says, and tell it. By the directives before,
-/// `declared` names were declared.
+/// Takes the condition that is spare, if there is one, or else memory for a new one.
+pub(crate) fn spare_or_new(
+    alloc: Global,
+    spare: &mut Option<Box<Condition>>,
+) -> Result<Box<Condition>, AllocError> {
+    if let Some(condition) = spare.take() {
+        return Ok(condition);
+    }
+    let condition = Box::new(alloc, Condition::new(alloc))?;
+    Ok(condition)
+}
+
+/// Returns whether the condition is true that has `tokens`, where these are up to date, as `held` says, and tell it. By the directives
+/// before, `declared` names were declared.
 fn truth_held<B: Bounds>(
     alloc: Global,
     held: Held,

@@ -1,5 +1,5 @@
 //! The conditionals of the file that is read.
-ghost use Rattle.std.specs.Prelude.{◌≡◌, ◌≤◌, [], length, Bool, IfOk, OnOk, IsErr, IsSome, None, false, is_none, reverse, true};
+ghost use Rattle.std.specs.Prelude.{◌≡◌, [], Bool, IfOk, OnOk, IsErr, IsSome, None, false, is_none, reverse, true};
 ghost use Rattle.inf_conditionals.specs.{Judging.sign_handed, Words.word_of};
 ghost use Rattle.inf_scanner.specs.declared.tokens.Mark.{Mark};
 ghost use Rattle.inf_unit.specs.{Atoms.keyword_of_kind, Spelled.spelled, Tokens.is_end, Tokens.is_mark, Tokens.keyword};
@@ -47,7 +47,7 @@ pub struct Conditionals {
     /// The message about a condition.
     pub(crate) said: Option<Said>,
     /// A condition that was read, whose memory the next one has. That of its unit may be in the message.
-    pub(crate) spare: Option<Condition>,
+    pub(crate) spare: Option<Box<Condition>>,
     /// All that conditions share.
     pub(crate) steps: Steps,
 }
@@ -101,7 +101,7 @@ fn may_act(kind: TokenKind, bytes: &[u8]) -> bool
 }
 
 /// Gives `spare` the memory of `unit`, if there are both.
-fn give_back(spare: &mut Option<Condition>, unit: Option<Unit>) {
+fn give_back(spare: &mut Option<Box<Condition>>, unit: Option<Unit>) {
     if let (Some(spare), Some(unit)) = (spare, unit) {
         spare.give_unit(unit);
     }
@@ -117,7 +117,8 @@ impl Drop for Conditionals {
 impl Conditionals {
     ghost use Rattle.inf_conditionals.specs.Ends.{file_ended, file_told, piece_ended, piece_told, with_among};
     ghost use Rattle.inf_conditionals.specs.Judging.{awaited, awaiting, begun, behind_front, behind_sign, held, in_side, is_behind_side};
-    ghost use Rattle.inf_conditionals.specs.Judging.{is_none_pending, judged, kept, may_part, offered, passed, sign_offered, unfit, word_passed};
+    ghost use Rattle.inf_conditionals.specs.Judging.{is_none_pending, judged, kept, may_part, offered, passed, sign_offered, unfit};
+    ghost use Rattle.inf_conditionals.specs.Judging.{word_passed};
     ghost use Rattle.inf_output.specs.Output.{Out};
     ghost use Rattle.inf_conditionals.specs.{Open.no_conditions, Open.silent, Said.with_right, Said.with_said};
 
@@ -148,7 +149,7 @@ impl Conditionals {
         [Vec<Conditional>; 2],
         Vec<Pending>,
         OpenConditions,
-        Option<Condition>,
+        Option<Box<Condition>>,
         Steps,
     ) {
         let Conditionals {
@@ -188,8 +189,8 @@ impl Conditionals {
         self.keeps(site, token) && self.said.is_none()
     }
 
-    /// Passes a token of `kind` with `bytes` where a first look shows that it does nothing, as most tokens of a side that is left out. A `#`
-    /// that was held back before it is forgotten. Returns whether it was passed; where it was not, it is still to be taken.
+    /// Passes a token of `kind` with `bytes` where a first look shows that it does nothing, as most tokens of a side that is left out. A
+    /// `#` that was held back before it is forgotten. Returns whether it was passed; where it was not, it is still to be taken.
     #[inline(always)]
     pub fn skips(&mut self, kind: TokenKind, bytes: &[u8]) -> bool
         ensures passes { result ≡ true → (site : Site) (o : Out) (place : Place) (is_class : Bool) → judged site o

@@ -18,4 +18,5 @@ mod packed;
 pub mod pending;
 pub mod said;
 mod truth;
+mod values;
 pub mod words;

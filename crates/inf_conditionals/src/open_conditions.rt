@@ -3,7 +3,7 @@ ghost use Rattle.std.specs.Prelude.{◌≡◌, ◌∷◌, ◌++◌, [], IfNone, 
 ghost use Rattle.inf_conditionals.specs.{Condition.condition_begun, ReadAgain.all_fit, ReadAgain.all_taken};
 ghost use Rattle.inf_conditionals.specs.Waiting.{CanWait, IsAdded, waiting_in};
 
-use crate::condition::{Condition, Steps};
+use crate::condition::{Condition, Steps, spare_or_new};
 use crate::packed::PackedTokens;
 use inf_unit::unit_tokens::UnitTokens;
 use std::alloc::{AllocError, Global};
@@ -24,7 +24,7 @@ pub(crate) enum Waiting {
 pub(crate) struct OpenConditions {
     alloc: Global,
     /// The innermost condition, unless it waits to be read again.
-    innermost: Option<Condition>,
+    innermost: Option<Box<Condition>>,
     /// The conditions that wait for one inside of them, inner ones last.
     waiting: Vec<Waiting>,
     /// The tokens of those among them that are short.
@@ -32,12 +32,12 @@ pub(crate) struct OpenConditions {
 }
 
 impl Model for OpenConditions {
-    ghost use Rattle.std.specs.Prelude.{List, reverse};
+    ghost use Rattle.std.specs.Prelude.{List, box_value, option_map, reverse};
     ghost use Rattle.inf_conditionals.specs.{Condition.Condition, Waiting.CanWait, Waiting.waiting_in, Waiting.with_innermost};
 
     ghost Value = { List Condition };
 
-    ghost view = { λ o. with_innermost o.innermost (waiting_in (reverse o.waiting.items) o.tokens) };
+    ghost view = { λ o. with_innermost (option_map box_value o.innermost) (waiting_in (reverse o.waiting.items) o.tokens) };
 
     ghost invariant = { λ o. CanWait (reverse o.waiting.items) o.tokens };
 }
@@ -67,22 +67,16 @@ impl OpenConditions {
     /// Adds a condition inside the others. The memory of the one around it becomes spare where it is short.
     pub(crate) fn push(
         &mut self,
-        condition: Condition,
-        spare: &mut Option<Condition>,
+        condition: Box<Condition>,
+        spare: &mut Option<Box<Condition>>,
     ) -> Result<(), AllocError>
-        ensures { OnOk result (self.new ≡ condition ∷ self.old) }
+        ensures { OnOk result (self.new ≡ condition.value ∷ self.old) }
     {
         let Some(outer) = self.innermost.take() else {
             self.innermost = Some(condition);
             return Ok(());
         };
-        wait(
-            self.alloc,
-            outer,
-            &mut self.waiting,
-            &mut self.tokens,
-            spare,
-        )?;
+        wait(outer, &mut self.waiting, &mut self.tokens, spare)?;
         self.innermost = Some(condition);
         Ok(())
     }
@@ -90,17 +84,17 @@ impl OpenConditions {
     /// Takes the innermost condition off, if there is one. One that waited is read again, by `spare`.
     pub(crate) fn pop(
         &mut self,
-        spare: &mut Option<Condition>,
+        spare: &mut Option<Box<Condition>>,
         steps: &mut Steps,
-    ) -> Result<Option<Condition>, AllocError>
-        ensures { IfOk result (λ innermost. MatchOption innermost (self.old ≡ []) (λ k. self.old ≡ k ∷ self.new)) }
+    ) -> Result<Option<Box<Condition>>, AllocError>
+        ensures { IfOk result (λ innermost. MatchOption innermost (self.old ≡ []) (λ k. self.old ≡ k.value ∷ self.new)) }
     {
         if let Some(condition) = self.innermost.take() {
             return Ok(Some(condition));
         }
         match self.waiting.pop() {
             None => Ok(None),
-            Some(Waiting::Long(condition)) => Ok(Some(Box::into_inner(condition))),
+            Some(Waiting::Long(condition)) => Ok(Some(condition)),
             Some(Waiting::Short(count)) => {
                 let first = self.tokens.len() - count;
                 let read = again(self.alloc, &self.tokens, first, spare, steps);
@@ -113,14 +107,13 @@ impl OpenConditions {
 
 /// Lets a condition wait inside the others, where `tokens` are those of the short ones.
 fn wait(
-    alloc: Global,
-    condition: Condition,
+    condition: Box<Condition>,
     waiting: &mut Vec<Waiting>,
     tokens: &mut UnitTokens,
-    spare: &mut Option<Condition>,
+    spare: &mut Option<Box<Condition>>,
 ) -> Result<(), AllocError>
     ensures waits { OnOk result (waiting_in (reverse waiting.new.items) tokens.new
-        ≡ condition ∷ waiting_in (reverse waiting.old.items) tokens.old) }
+        ≡ condition.value ∷ waiting_in (reverse waiting.old.items) tokens.old) }
     ensures can { CanWait (reverse waiting.old.items) tokens.old → CanWait (reverse waiting.new.items) tokens.new }
 {
     waiting.reserve(1)?;
@@ -131,8 +124,7 @@ fn wait(
             Ok(())
         }
         None => {
-            let kept = Box::new(alloc, condition)?;
-            waiting.push_reserved(Waiting::Long(kept));
+            waiting.push_reserved(Waiting::Long(condition));
             Ok(())
         }
     }
@@ -172,16 +164,13 @@ fn again(
     alloc: Global,
     tokens: &UnitTokens,
     first: usize,
-    spare: &mut Option<Condition>,
+    spare: &mut Option<Box<Condition>>,
     steps: &mut Steps,
-) -> Result<Condition, AllocError>
+) -> Result<Box<Condition>, AllocError>
     requires { all_fit (drop first tokens.now) condition_begun ≡ true }
-    ensures { IfOk result (λ k. k ≡ all_taken (drop first tokens.now) condition_begun) }
+    ensures { IfOk result (λ k. k.value ≡ all_taken (drop first tokens.now) condition_begun) }
 {
-    let mut condition = match spare.take() {
-        Some(spare) => spare,
-        None => Condition::new(alloc),
-    };
+    let mut condition = spare_or_new(alloc, spare)?;
     condition.begin()?;
     condition.take_from(steps, tokens, first)?;
     Ok(condition)

@@ -1,7 +1,7 @@
 //! The messages about a condition.
 ghost use Rattle.std.specs.Prelude.{◌≡◌, OnOk, Some, option_map, slice_get};
 ghost use Rattle.inf_unit.specs.{AtHand.unit as unit_of, Diagnostics.blamed, Spelled.spelled};
-ghost use Rattle.inf_conditionals.specs.{Meant.said_of, Said.blame_at, Said.too_deep, Said.too_much_by, Said.with_right, Said.with_said};
+ghost use Rattle.inf_conditionals.specs.{Meant.said_of, Said.blame_at, Said.too_much_by, Said.with_right, Said.with_said};
 
 use crate::condition::Extent;
 use crate::operands::add_actions;

@@ -1,4 +1,5 @@
-use Rattle.std.proofs.Common.{◌≡◌, ◌≤◌, ◌∷◌, ◌++◌, [], Err, List, Ok, OnErr, OnOk, Result, ap, append_assoc, arith, false, is_err, length, sym, take, true, ◌∙◌}
+use Rattle.std.proofs.Common.{◌≡◌, ◌∷◌, ◌++◌, [], Err, List, Ok, OnErr, OnOk, Result, ap, append_assoc, arith, false, is_err, length, sym}
+use Rattle.std.proofs.Common.{take, true, ◌∙◌}
 use Rattle.std.proofs.lemmas.List.{length-append, take-append-le}
 use Rattle.inf_unit.specs.{Spelled.spelled, Tokens.SourceToken}
 use Rattle.inf_conditionals.proofs.open_conditions.add_all.Goals as goal

@@ -1,7 +1,8 @@
 use Rattle.std.proofs.Common.{◌||◌, ℕ, Bool, nat_eq, sym, ap, ◌∙◌}
 use Rattle.std.proofs.lemmas.Bool.{eqb-true, false_from_ne_true}
 use Rattle.inf_conditionals.proofs.Skipping.{long_is_no_word, other_is_no_word, short_is_no_word}
-use Rattle.inf_conditionals.proofs.words.may_be_word.Goals.{then-bytes-lt5-via-then-bytes-lt5, then-bytes-lt5-via-else-bytes-lt5+then-bytes-gt7}
+use Rattle.inf_conditionals.proofs.words.may_be_word.Goals.{then-bytes-lt5-via-then-bytes-lt5}
+use Rattle.inf_conditionals.proofs.words.may_be_word.Goals.{then-bytes-lt5-via-else-bytes-lt5+then-bytes-gt7}
 use Rattle.inf_conditionals.proofs.words.may_be_word.Goals as goal
 
 pub returns-then-bytes-lt5 : goal.returns-then-bytes-lt5

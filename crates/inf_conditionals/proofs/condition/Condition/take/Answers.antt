@@ -11,6 +11,7 @@ invariant_of-self-in-Both c =
     ap has_tokens (sym c.replace-held.ensures.value) ∙ either_there c.replace-held.result c.in-Both.is in
     let is : condition_at c.unfold.new.rest (unit_of c.unfold.new.unit) ≡ condition_by k.held k.rest (unit_of k.unit) k.tokens =
     c.in_ok-unfold.ensures ∙ ap (λ (h : Held). condition_by h k.rest (unit_of k.unit) k.tokens) c.replace-held.ensures.value in
-    both_more k.held k.rest (unit_of k.unit) k.tokens c.add.new.self (spelled c.args.token.now) c.unfold.new.rest (unit_of c.unfold.new.unit)
+    both_more k.held k.rest (unit_of k.unit) k.tokens c.add.new.self (spelled c.args.token.now) c.unfold.new.rest
+    (unit_of c.unfold.new.unit)
     c.gather.new.rest (unit_of c.gather.new.unit) there c.self.invariant is (sym c.in_ok-gather.ensures.fits ∙ c.if-not-branch.false)
     (c.in_ok-gather.ensures.taken c.if-not-branch.false) c.in_ok-add-in-Both.ensures.added

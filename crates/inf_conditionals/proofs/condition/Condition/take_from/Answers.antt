@@ -5,7 +5,8 @@ use Rattle.inf_conditionals.proofs.condition.Condition.take_from.Goals as goal
 
 pub unreachable-requires-then-not-branch : goal.unreachable-requires-then-not-branch
 unreachable-requires-then-not-branch c =
-    let fit = one_fits c.args.tokens.now c.loop-at.at (spelled c.in-Some.token) c.loop-at.self (sym c.in-Some.ensures) c.loop-at.invariant.fits in
+    let fit = one_fits c.args.tokens.now c.loop-at.at (spelled c.in-Some.token) c.loop-at.self
+    (sym c.in-Some.ensures) c.loop-at.invariant.fits in
     let never : false ≡ true = sym c.if-not-branch.true ∙ c.in_ok-take.ensures.fits ∙ fit in
     cc
 

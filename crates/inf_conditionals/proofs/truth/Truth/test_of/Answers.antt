@@ -1,4 +1,5 @@
-use Rattle.std.proofs.Common.{◌≡◌, ◌≤◌, ◌+◌, ◌-◌, ◌==◌, ℕ, suc, zero, List, None, OnOk, Option, ap, arith, drop, false, get_or, if◌then◌else◌, length, reverse, subst, sym, take}
+use Rattle.std.proofs.Common.{◌≡◌, ◌≤◌, ◌+◌, ◌-◌, ◌==◌, ℕ, suc, zero, List, None, OnOk, Option, ap, arith, drop, false, get_or}
+use Rattle.std.proofs.Common.{if◌then◌else◌, length, reverse, subst, sym, take}
 use Rattle.std.proofs.Common.{◌∙◌}
 use Rattle.std.proofs.Math.Dec.{eqb-suc-zero}
 use Rattle.inf_conditionals.specs.{Truths.Truth, Truths.odd, Truths.test_of, Truths.tested_behind, Truths.with_value, Values.tested}
