@@ -5,15 +5,23 @@ use inf_grammar::{FILE, PIECE, atom_of};
 use std::alloc::{AllocError, Global};
 
 /// Returns whether all tokens of a piece fit, and their actions, in order.
-pub(crate) fn actions(alloc: Global, piece: &str) -> Result<String, AllocError> {
-    let mut reader = Reader::new(alloc, PIECE)?;
+pub(crate) fn actions(
+    alloc: Global,
+    reader: &mut Reader,
+    piece: &str,
+) -> Result<String, AllocError> {
+    reader.machine.start(PIECE)?;
     let fit = reader.read_all(piece)?;
     format!(in alloc; "fit: {fit}, {:?}", reader.actions.as_slice())
 }
 
 /// Returns whether all tokens of a source fit, whether it may end behind them, and whether a routine is open there.
-pub(crate) fn source(alloc: Global, tokens: &str) -> Result<String, AllocError> {
-    let mut reader = Reader::new(alloc, FILE)?;
+pub(crate) fn source(
+    alloc: Global,
+    reader: &mut Reader,
+    tokens: &str,
+) -> Result<String, AllocError> {
+    reader.machine.start(FILE)?;
     let fit = reader.read_all(tokens)?;
     let can_end = reader.machine.can_end();
     let is_in_routine = reader.machine.is_in_routine();
@@ -28,19 +36,33 @@ pub(crate) fn same(alloc: Global, words: &str) -> Result<String, AllocError> {
 }
 
 /// Returns of each of some tokens whether a piece may begin with it.
-pub(crate) fn begin(alloc: Global, tokens: &str) -> Result<String, AllocError> {
-    let reader = Reader::new(alloc, PIECE)?;
-    let mut answers = Vec::new(alloc);
+pub(crate) fn begin(
+    alloc: Global,
+    reader: &mut Reader,
+    tokens: &str,
+) -> Result<String, AllocError> {
+    reader.machine.start(PIECE)?;
+    let mut told = String::new(alloc);
     for spelling in tokens.split(' ') {
-        answers.push(reader.fits(spelling))?;
+        told.push_str(if told.is_empty() { "[" } else { ", " })?;
+        told.push_str(if reader.fits(spelling) {
+            "true"
+        } else {
+            "false"
+        })?;
     }
-    format!(in alloc; "{:?}", answers.as_slice())
+    told.push_str("]")?;
+    Ok(told)
 }
 
 /// Takes the first token of a piece and gives the piece up; then begins another one. Returns whether a routine is open,
 /// whether the machine is done then, and whether the token fits before and behind the beginning.
-pub(crate) fn give_up(alloc: Global, spelling: &str) -> Result<String, AllocError> {
-    let mut reader = Reader::new(alloc, PIECE)?;
+pub(crate) fn give_up(
+    alloc: Global,
+    reader: &mut Reader,
+    spelling: &str,
+) -> Result<String, AllocError> {
+    reader.machine.start(PIECE)?;
     reader.take(spelling)?;
     let is_in_routine = reader.machine.is_in_routine();
     reader.machine.clear();

@@ -20,30 +20,43 @@ mod pieces;
 mod reader;
 mod tried;
 
+use crate::reader::Reader;
 use std::alloc::{AllocError, Global};
 use std::io::{self, BufRead, BufReader};
 
-/// Returns the answer to a question, or a title itself.
-fn answer_of(alloc: Global, question: &str) -> Result<String, AllocError> {
+/// Returns the answer to a line, or a title itself, by two readers whose machines have not started.
+fn told(
+    alloc: Global,
+    line: &str,
+    reader: &mut Reader,
+    other: &mut Reader,
+) -> Result<String, AllocError> {
+    let Some(question) = line.strip_prefix('!') else {
+        return pieces::told(alloc, reader, line);
+    };
     let (name, tokens) = question.split_once(' ').unwrap_or((question, ""));
     match name {
         "" => String::from_str(alloc, tokens),
-        "actions" => asked::actions(alloc, tokens),
-        "source" => asked::source(alloc, tokens),
+        "actions" => asked::actions(alloc, reader, tokens),
+        "source" => asked::source(alloc, reader, tokens),
         "same" => asked::same(alloc, tokens),
-        "begin" => asked::begin(alloc, tokens),
-        "bad" => tried::tried(alloc, tokens),
-        "give_up" => asked::give_up(alloc, tokens),
+        "begin" => asked::begin(alloc, reader, tokens),
+        "bad" => String::from_str(alloc, tried::told(reader, other, tokens)?),
+        "give_up" => asked::give_up(alloc, reader, tokens),
         _ => String::from_str(alloc, "no question"),
     }
 }
 
+/// Returns the answer to a line by a reader whose machine has not started, and another one where the line asks for two.
+fn told_by(alloc: Global, line: &str, reader: &mut Reader) -> Result<String, AllocError> {
+    let mut other = Reader::new(alloc);
+    told(alloc, line, reader, &mut other)
+}
+
 /// Returns the answer to a line.
 fn answer(alloc: Global, line: &str) -> Result<String, AllocError> {
-    match line.strip_prefix('!') {
-        Some(question) => answer_of(alloc, question),
-        None => pieces::told(alloc, line),
-    }
+    let mut reader = Reader::new(alloc);
+    told_by(alloc, line, &mut reader)
 }
 
 /// Writes the answer to a line.

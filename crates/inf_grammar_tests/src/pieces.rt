@@ -2,45 +2,18 @@
 use crate::reader::Reader;
 use inf_grammar::{Mark, PIECE, Token};
 use std::alloc::{AllocError, Global};
-use std::fmt;
 
-/// The machine's answer to a piece.
-#[derive(Clone, Copy)]
-enum Answer {
-    /// The piece ended with its last token, after this number of actions.
-    Whole(usize),
-    /// The machine took all tokens, and waits for more.
-    More,
-    /// The number of tokens before the one that does not fit.
-    Bad(usize),
-}
-
-impl fmt::Display for Answer {
-    fn fmt<W: fmt::Write>(&self, f: &mut fmt::Formatter<W>) -> fmt::Result {
-        match self {
-            Answer::Whole(actions) => write!(f, "whole, with {actions} actions"),
-            Answer::More => write!(f, "more is needed"),
-            Answer::Bad(before) => write!(f, "bad behind {before}"),
-        }
+/// Returns the machine's answer to a piece with spaces between its tokens: that it ended with its last token, after some actions, that more
+/// tokens have to come, or the number of tokens before the one that does not fit.
+pub(crate) fn told(alloc: Global, reader: &mut Reader, piece: &str) -> Result<String, AllocError> {
+    reader.machine.start(PIECE)?;
+    if !reader.read_all(piece)? {
+        return format!(in alloc; "bad behind {}", reader.taken);
     }
-}
-
-/// Reads a piece with spaces between its tokens, and returns the machine's answer.
-fn read(alloc: Global, piece: &str) -> Result<Answer, AllocError> {
-    let mut reader = Reader::new(alloc, PIECE)?;
-    Ok(if !reader.read_all(piece)? {
-        Answer::Bad(reader.taken)
-    } else if reader.machine.is_done() {
-        Answer::Whole(reader.actions.len())
-    } else {
-        Answer::More
-    })
-}
-
-/// Returns the machine's answer to a piece in words.
-pub(crate) fn told(alloc: Global, piece: &str) -> Result<String, AllocError> {
-    let answer = read(alloc, piece)?;
-    format!(in alloc; "{answer}")
+    if reader.machine.is_done() {
+        return format!(in alloc; "whole, with {} actions", reader.actions.len());
+    }
+    String::from_str(alloc, "more is needed")
 }
 
 /// Returns the token with this spelling. A `^` comes before the name of a class, `!` is the end, and any other spelling

@@ -14,15 +14,13 @@ pub(crate) struct Reader {
 }
 
 impl Reader {
-    /// Makes a reader that starts with a rule.
-    pub(crate) fn new(alloc: Global, rule: u8) -> Result<Reader, AllocError> {
-        let mut machine = Machine::new(alloc);
-        machine.start(rule)?;
-        Ok(Reader {
-            machine,
+    /// Makes a reader whose machine has not started.
+    pub(crate) fn new(alloc: Global) -> Reader {
+        Reader {
+            machine: Machine::new(alloc),
             actions: Vec::new(alloc),
             taken: 0,
-        })
+        }
     }
 
     /// Returns whether a token fits.

@@ -1,7 +1,7 @@
 //! Bad tokens, tried at each place of a piece.
 use crate::reader::Reader;
 use inf_grammar::PIECE;
-use std::alloc::{AllocError, Global};
+use std::alloc::AllocError;
 
 /// The tokens that are tried at each place where they do not fit.
 const TRIED: &str = "] ) : ; meta";
@@ -23,9 +23,14 @@ fn both_take(reader: &mut Reader, other: &mut Reader, spelling: &str) -> Result<
     Ok(is_taken && reader.actions.as_slice() == other.actions.as_slice())
 }
 
-/// Reads a piece, with bad tokens before each of its own. Returns in words whether they changed
-/// anything.
-fn told(reader: &mut Reader, other: &mut Reader, piece: &str) -> Result<&'static str, AllocError> {
+/// Reads a piece from its beginning, with bad tokens before each of its own. Returns in words whether they changed anything.
+pub(crate) fn told(
+    reader: &mut Reader,
+    other: &mut Reader,
+    piece: &str,
+) -> Result<&'static str, AllocError> {
+    reader.machine.start(PIECE)?;
+    other.machine.start(PIECE)?;
     for spelling in piece.split(' ') {
         if !refuses(reader, other)? {
             return Ok("a bad token is taken");
@@ -39,12 +44,4 @@ fn told(reader: &mut Reader, other: &mut Reader, piece: &str) -> Result<&'static
     } else {
         "nothing changed, more is needed"
     })
-}
-
-/// Reads a piece from its beginning, with bad tokens before each of its own. Returns in words
-/// whether they changed anything.
-pub(crate) fn tried(alloc: Global, piece: &str) -> Result<String, AllocError> {
-    let mut reader = Reader::new(alloc, PIECE)?;
-    let mut other = Reader::new(alloc, PIECE)?;
-    String::from_str(alloc, told(&mut reader, &mut other, piece)?)
 }

@@ -2,7 +2,7 @@
 use crate::metered::{Metered, Pace};
 use inf_devices::memory_files::MemoryFiles;
 use inf_lexer::{EnterFault, LexFault, Lexer, Stack, Token, TokenKind};
-use inf_test_lines::{number_at, word};
+use inf_test_lines::{number_at, shown, word};
 use inf_text::CharSet;
 use percent_encoding::percent_decode;
 use std::alloc::{AllocError, Global};
@@ -31,15 +31,6 @@ fn bytes_of(alloc: Global, word: &str) -> Result<Vec<u8>, AllocError> {
     let mut bytes = Vec::new(alloc);
     percent_decode(word.as_bytes()).append_to(&mut bytes)?;
     Ok(bytes)
-}
-
-/// Returns the pace that a command asks for.
-fn pace_of(command: &str) -> Pace {
-    Pace {
-        most: [number_at(command, 3), number_at(command, 4)],
-        reads: number_at(command, 5),
-        is_endless: word(command, 6) == "endless",
-    }
 }
 
 /// Returns `count` times a piece, and a text behind them.
@@ -103,7 +94,14 @@ impl Session {
                 word(command, 4),
             )?,
             "numbers" => self.add_numbers(number_at(command, 1))?,
-            "new" => self.begin(word(command, 1), word(command, 2), pace_of(command))?,
+            "new" => {
+                let pace = Pace {
+                    most: [number_at(command, 3), number_at(command, 4)],
+                    reads: number_at(command, 5),
+                    is_endless: word(command, 6) == "endless",
+                };
+                self.begin(word(command, 1), word(command, 2), pace)?;
+            }
             "leave" => self.leave(),
             _ => return self.told(name, command),
         }
@@ -121,16 +119,11 @@ impl Session {
             "ahead" => self.ahead(command),
             "many" => self.enter_many(number_at(command, 1)),
             "name" => self.name(word(command, 1)),
-            "opened" => self.number(self.files.opened),
-            "reads" => self.number(self.files.reads),
-            "given" => self.number(self.files.given),
+            "opened" => shown(self.alloc, &self.files.opened),
+            "reads" => shown(self.alloc, &self.files.reads),
+            "given" => shown(self.alloc, &self.files.given),
             _ => format!(in self.alloc; "no command: {name}"),
         }
-    }
-
-    /// Returns a number in decimal digits.
-    fn number(&self, number: usize) -> Result<String, AllocError> {
-        format!(in self.alloc; "{number}")
     }
 
     /// Puts a source into the folder: `count` times a piece, and a text behind them.
@@ -160,18 +153,13 @@ impl Session {
     fn begin(&mut self, set: &str, limit: &str, pace: Pace) -> Result<(), AllocError> {
         let whole = MemoryFiles::new(self.alloc, self.folder.clone()?);
         self.files = Metered::new(self.alloc, whole, pace);
-        self.restart(set, limit.parse().unwrap_or(0));
-        Ok(())
-    }
-
-    /// Begins anew with no file entered.
-    fn restart(&mut self, set: &str, limit: u32) {
         let set = match set {
             "ascii" => CharSet::Ascii,
             _ => CharSet::Latin1,
         };
-        self.stack = Stack::new(self.alloc, set, limit);
+        self.stack = Stack::new(self.alloc, set, limit.parse().unwrap_or(0));
         self.lexers = Vec::new(self.alloc);
+        Ok(())
     }
 
     /// Keeps the lexer of a file that was entered.

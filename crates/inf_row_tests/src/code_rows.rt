@@ -5,7 +5,7 @@ ghost use Rattle.inf_code.specs.Code.{code_limits};
 use crate::areas::bytes_of;
 use crate::code_steps::{Addition, Question, Step, step_of};
 use crate::fixups::fixups_of;
-use inf_area::{AreaName, Refs, Scale, Target};
+use inf_area::{AddFault, AreaName, PagedArea, Refs, Scale, Target};
 use inf_assembler::{CloseFault, GrowFault, RoutineKind};
 use inf_code::code::{Code, CodeLimits};
 use inf_opcode::{Branch, Destination, Instruction, Label, Opcode, Operand};
@@ -119,15 +119,21 @@ fn taken<B: Bounds>(alloc: Global, code: &mut Code<B>, line: &str) -> Result<Str
     Ok(told)
 }
 
-/// Returns the bytes and the fixups of code, where its first routine calls the place 8.
-fn handed_over<B: Bounds>(alloc: Global, code: Code<B>) -> Result<String, AllocError> {
-    let mut refs = Refs::new(alloc, 100);
-    match code.into_area(Target::Place(AreaName::Code, 8), &mut refs) {
-        Ok(area) => {
-            let bytes = bytes_of(alloc, &area)?;
-            format!(in alloc; "{bytes} | {}", fixups_of(alloc, &refs)?)
+/// Returns the answers to steps, and the bytes and the fixups of all code behind them where these are given.
+fn told_of(
+    alloc: Global,
+    taken: Result<String, AllocError>,
+    code: Option<&Result<PagedArea, AddFault>>,
+    refs: &Refs,
+) -> Result<String, AllocError> {
+    let told = taken?;
+    match code {
+        Some(Ok(area)) => {
+            let bytes = bytes_of(alloc, area)?;
+            format!(in alloc; "{told} | {bytes} | {}", fixups_of(alloc, refs)?)
         }
-        Err(fault) => debugged(alloc, &fault),
+        Some(Err(fault)) => format!(in alloc; "{told} | {fault:?}"),
+        None => Ok(told),
     }
 }
 
@@ -151,11 +157,14 @@ fn answer_under<B: Bounds>(
 {
     let mut code = Code::<B>::new(alloc, limits, Scale::Four)?;
     let line = text_of(line);
-    match line.strip_suffix(" | bytes") {
-        Some(steps) => {
-            let told = taken(alloc, &mut code, steps)?;
-            format!(in alloc; "{told} | {}", handed_over(alloc, code)?)
-        }
-        None => taken(alloc, &mut code, line),
-    }
+    let steps = line.strip_suffix(" | bytes");
+    let taken = taken(alloc, &mut code, steps.unwrap_or(line));
+    let mut refs = Refs::new(alloc, 100);
+    // The first routine calls the place 8.
+    let area = code.into_area(Target::Place(AreaName::Code, 8), &mut refs);
+    let asked = match steps {
+        Some(_) => Some(&area),
+        None => None,
+    };
+    told_of(alloc, taken, asked, &refs)
 }

@@ -65,12 +65,16 @@ fn tell(alloc: Global, told: &mut String, refs: &mut Refs, step: &str) -> Result
     told.push_str(format!(in alloc; "; {}", fixups_of(alloc, refs)?)?.as_str())
 }
 
-/// Returns the answer to a line of steps on a list of fixups.
-pub(crate) fn answer(alloc: Global, line: &str) -> Result<String, AllocError> {
-    let mut refs = Refs::new(alloc, number_or(line, 1, 0));
-    let mut told = fixups_of(alloc, &refs)?;
+/// Takes the steps of a line on a list of fixups, and returns what each gives.
+fn told_of(alloc: Global, refs: &mut Refs, line: &str) -> Result<String, AllocError> {
+    let mut told = fixups_of(alloc, refs)?;
     for step in line.split(" | ").skip(1) {
-        tell(alloc, &mut told, &mut refs, step)?;
+        tell(alloc, &mut told, refs, step)?;
     }
     Ok(told)
+}
+
+/// Returns the answer to a line of steps on a list of fixups.
+pub(crate) fn answer(alloc: Global, line: &str) -> Result<String, AllocError> {
+    told_of(alloc, &mut Refs::new(alloc, number_or(line, 1, 0)), line)
 }

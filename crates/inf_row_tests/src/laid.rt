@@ -8,7 +8,7 @@ use crate::expressions::{HERE, trees};
 use crate::laying::{Laying, Way, way_of};
 use inf_area::{Area, AreaName, PagedArea, Refs, Scale, Target};
 use inf_arrays::{Arrays, Globals};
-use inf_assembler::RoutineKind;
+use inf_assembler::{CloseFault, RoutineKind};
 use inf_code::code::{Code, CodeLimits};
 use inf_dictionary::Dictionary;
 use inf_expressions::Forest;
@@ -17,6 +17,7 @@ use inf_names::symbols::Symbols;
 use inf_output::{Output, Strings, Texts};
 use inf_scanner::Place;
 use inf_settings::bounds::Bounds;
+use inf_settings::setting::Setting;
 use inf_tables::{Limits, LowStrings, Tables, World};
 use inf_templates::Tasks;
 use inf_test_lines::{bytes_in, debugged, number_or, text_of, word};
@@ -60,45 +61,81 @@ fn add_bytes(alloc: Global, told: &mut String, area: &PagedArea) -> Result<(), A
     Ok(())
 }
 
-/// Returns the bytes of closed routines, and their names, in words.
-fn told_area<B: Bounds>(
+/// How the laying of expressions ended: whether memory sufficed, the limit that was passed, and whether the routine was closed.
+#[derive(Clone, Copy)]
+struct End {
+    laid: Result<(), AllocError>,
+    full: Option<Setting>,
+    closed: Result<(), CloseFault>,
+}
+
+/// Returns the bytes of the routine and its names in words, or the limit that was passed or the fault.
+fn told_of<B: Bounds>(
     alloc: Global,
+    end: End,
     names: &Symbols<Place, B>,
-    code: Code<B>,
+    area: &mut PagedArea,
+    refs: &Refs,
 ) -> Result<String, AllocError> {
-    let mut refs = Refs::new(alloc, usize::MAX);
-    let Ok(mut area) = code.into_area(Target::Place(AreaName::Code, 8), &mut refs) else {
-        return Err(AllocError);
-    };
-    fill(&mut area, &refs);
+    end.laid?;
+    if let Some(limit) = end.full {
+        return format!(in alloc; "Full({limit:?})");
+    }
+    if let Err(fault) = end.closed {
+        return debugged(alloc, &fault);
+    }
+    fill(area, refs);
     let mut told = String::from_str(alloc, "bytes")?;
-    add_bytes(alloc, &mut told, &area)?;
+    add_bytes(alloc, &mut told, area)?;
     add_names(alloc, &mut told, names)?;
     Ok(told)
 }
 
-/// Closes the routine, and returns its bytes and names in words, or its fault.
-fn told_closed<B: Bounds>(
+/// Puts code into an area, and returns the bytes of its routine and its names in words, or the limit that was passed or the fault.
+fn told_area<B: Bounds>(
     alloc: Global,
-    names: Symbols<Place, B>,
-    mut code: Code<B>,
+    end: End,
+    names: &Symbols<Place, B>,
+    code: Code<B>,
+    refs: &mut Refs,
 ) -> Result<String, AllocError> {
-    match code.close(RoutineKind::Plain) {
-        Ok(()) => told_area(alloc, &names, code),
-        Err(fault) => debugged(alloc, &fault),
+    match code.into_area(Target::Place(AreaName::Code, 8), refs) {
+        Ok(mut area) => told_of(alloc, end, names, &mut area, refs),
+        Err(_) => Err(AllocError),
     }
 }
 
-/// Closes the routine of `out`, and returns its bytes and names in words, or the limit that was
-/// passed.
-fn told_of<B: Bounds>(alloc: Global, out: Output<B>) -> Result<String, AllocError> {
-    match out.full() {
-        Some(limit) => format!(in alloc; "Full({limit:?})"),
-        None => {
-            let (code, contents) = out.into_parts();
-            told_closed(alloc, contents.names, code)
-        }
-    }
+/// Closes the routine of an output behind a laying, and returns its bytes and names in words, or the limit that was passed or the fault.
+fn told_closed<B: Bounds>(
+    alloc: Global,
+    laid: Result<(), AllocError>,
+    out: Output<B>,
+    refs: &mut Refs,
+) -> Result<String, AllocError> {
+    let full = out.full();
+    let (mut code, contents) = out.into_parts();
+    let end = End {
+        laid,
+        full,
+        closed: code.close(RoutineKind::Plain),
+    };
+    told_area(alloc, end, &contents.names, code, refs)
+}
+
+/// Lays some expressions in a way in the first routine of an output, and returns the answer to them.
+fn told_by<B: Bounds>(
+    alloc: Global,
+    way: Way,
+    forest: &Forest,
+    out: Output<B>,
+    refs: &mut Refs,
+) -> Result<String, AllocError> {
+    let mut laying = Laying {
+        tasks: Tasks::new(alloc),
+        out,
+    };
+    let laid = laying.begin(alloc, way, forest);
+    told_closed(alloc, laid, laying.out, refs)
 }
 
 /// The limits of names and of code.
@@ -140,32 +177,15 @@ fn tables<B: Bounds>(alloc: Global) -> Tables<B>
     }
 }
 
-/// Makes an output with some names.
-fn output_for<B: Bounds>(
-    alloc: Global,
-    limits: CodeLimits,
-    names: Symbols<Place, B>,
-) -> Result<Output<B>, AllocError>
-    requires code { limits ≡ code_limits B.most }
+/// Makes an output of code and names, and nothing else.
+fn output_of<B: Bounds>(alloc: Global, names: Symbols<Place, B>, code: Code<B>) -> Output<B>
     requires strings { 262144 ≡ B.most Setting.Strings }
     requires others { AreUsual B.most }
 {
-    let code = Code::new(alloc, limits, Scale::Four)?;
     let strings = Strings::new(alloc, 262_144, Scale::Four);
     let seen = Symbols::new(alloc, u32::MAX, false, NameHashing::new(b""));
     let texts = Texts::new(alloc);
-    Ok(Output::new(code, strings, tables::<B>(alloc), names, texts, seen, HERE))
-}
-
-/// Lays some expressions in a way, and returns the answer to them.
-fn told_by<B: Bounds>(
-    alloc: Global,
-    way: Way,
-    forest: &Forest,
-    mut laying: Laying<B>,
-) -> Result<String, AllocError> {
-    laying.begin(alloc, way, forest)?;
-    told_of(alloc, laying.out)
+    Output::new(code, strings, tables::<B>(alloc), names, texts, seen, HERE)
 }
 
 /// Returns the answer to a line of expressions.
@@ -191,9 +211,13 @@ fn answer_under<B: Bounds>(
 {
     let mut names = Symbols::<Place, B>::new(alloc, most.names, false, NameHashing::new(b""));
     let forest = trees(alloc, &mut names, text_of(spelled))?;
-    let laying = Laying {
-        tasks: Tasks::new(alloc),
-        out: output_for(alloc, most.code, names)?,
-    };
-    told_by(alloc, way, &forest, laying)
+    let code = Code::new(alloc, most.code, Scale::Four)?;
+    let mut refs = Refs::new(alloc, usize::MAX);
+    told_by(
+        alloc,
+        way,
+        &forest,
+        output_of(alloc, names, code),
+        &mut refs,
+    )
 }

@@ -65,16 +65,19 @@ fn append<A: Area>(areas: &mut Areas<A>, name: AreaName, bytes: &[u8]) -> Result
     }
 }
 
-/// Returns a copy of `targets`.
-fn copy_of(alloc: Global, targets: &Targets) -> Result<Targets, AllocError> {
-    Ok(Targets {
-        names: Vec::from_slice(alloc, &targets.names)?,
-        property_tables: Vec::from_slice(alloc, &targets.property_tables)?,
-        individual_tables: Vec::from_slice(alloc, &targets.individual_tables)?,
-        verbs: Vec::from_slice(alloc, &targets.verbs)?,
-        words: Vec::from_slice(alloc, &targets.words)?,
-        last_object: targets.last_object,
-    })
+/// Appends all of `from` to targets.
+fn copy_to(targets: &mut Targets, from: &Targets) -> Result<(), AllocError> {
+    targets.names.extend_from_slice(&from.names)?;
+    targets
+        .property_tables
+        .extend_from_slice(&from.property_tables)?;
+    targets
+        .individual_tables
+        .extend_from_slice(&from.individual_tables)?;
+    targets.verbs.extend_from_slice(&from.verbs)?;
+    targets.words.extend_from_slice(&from.words)?;
+    targets.last_object = from.last_object;
+    Ok(())
 }
 
 /// Appends `put` to an area once.
@@ -111,18 +114,6 @@ fn put_piece<A: Area>(
     Ok(())
 }
 
-/// Appends pieces to areas.
-fn put_all<A: Area>(
-    areas: &mut Areas<A>,
-    fixups: &mut Vec<Fixup>,
-    pieces: &[Piece],
-) -> Result<(), AllocError> {
-    for piece in pieces {
-        put_piece(areas, fixups, piece)?;
-    }
-    Ok(())
-}
-
 /// Returns `fixups` as references, in order or in reverse.
 fn refs_of(alloc: Global, fixups: &[Fixup], is_reversed: bool) -> Result<Refs, AllocError> {
     let mut refs = Refs::new(alloc, fixups.len());
@@ -139,6 +130,22 @@ fn refs_of(alloc: Global, fixups: &[Fixup], is_reversed: bool) -> Result<Refs, A
     Ok(refs)
 }
 
+/// Appends the pieces of a script to areas and its targets to `targets`, and returns its fixups.
+fn put_all<A: Area>(
+    alloc: Global,
+    areas: &mut Areas<A>,
+    targets: &mut Targets,
+    script: &Script,
+    is_reversed: bool,
+) -> Result<Refs, AllocError> {
+    copy_to(targets, &script.targets)?;
+    let mut fixups = Vec::from_slice(alloc, &script.fixups)?;
+    for piece in &script.pieces {
+        put_piece(areas, &mut fixups, piece)?;
+    }
+    refs_of(alloc, &fixups, is_reversed)
+}
+
 /// Returns the story of a script, or the reason why there is none.
 fn linked<A: Made>(
     alloc: Global,
@@ -147,11 +154,11 @@ fn linked<A: Made>(
     is_reversed: bool,
 ) -> Result<Result<Story, LinkFault>, AllocError> {
     let mut areas: Areas<A> = areas(alloc);
-    let mut fixups = Vec::from_slice(alloc, &script.fixups)?;
-    put_all(&mut areas, &mut fixups, &script.pieces)?;
-    let refs = refs_of(alloc, &fixups, is_reversed)?;
-    let targets = copy_of(alloc, &script.targets)?;
-    Ok(Link::new(alloc, areas, refs, targets, fields).link())
+    let mut targets = Script::new(alloc).targets;
+    match put_all(alloc, &mut areas, &mut targets, script, is_reversed) {
+        Ok(refs) => Ok(Link::new(alloc, areas, refs, targets, fields).link()),
+        Err(AllocError) => Err(AllocError),
+    }
 }
 
 /// Returns bytes as numbers, two by two.

@@ -144,38 +144,45 @@ fn begin<A: Area>(area: &mut A, refs: &mut Refs, count: usize) -> Result<(), All
     Ok(())
 }
 
-/// Writes a routine in an area, behind the bytes before it, and returns the refusals, the bytes and
-/// the fixups.
+/// Writes a routine in an area, behind the bytes before it, and returns the refusals, the bytes and the fixups.
 fn in_area<A: Area>(
     alloc: Global,
     area: &mut A,
+    refs: &mut Refs,
+    head: &Head,
+    items: &Items,
+) -> Result<String, AllocError> {
+    begin(area, refs, head.before)?;
+    let told = told_of(alloc, area, refs, head, items)?;
+    let bytes = bytes_of(alloc, area)?;
+    format!(in alloc; "{told}; {bytes}; {}", fixups_of(alloc, refs)?)
+}
+
+/// Returns the answer for a routine in an area that has no bytes.
+fn in_new<A: Area + Drop>(
+    alloc: Global,
+    mut area: A,
     head: &Head,
     items: &Items,
 ) -> Result<String, AllocError> {
     let mut refs = Refs::new(alloc, head.refs);
-    begin(area, &mut refs, head.before)?;
-    let told = told_of(alloc, area, &mut refs, head, items)?;
-    let bytes = bytes_of(alloc, area)?;
-    format!(in alloc; "{told}; {bytes}; {}", fixups_of(alloc, &refs)?)
+    in_area(alloc, &mut area, &mut refs, head, items)
 }
 
-/// Returns the answer for a routine in an area that lacks memory once.
-fn in_failing(alloc: Global, head: &Head, items: &Items) -> Result<String, AllocError> {
-    let mut area = Failing {
-        inner: FlatArea::new(alloc),
-        room: head.room,
-    };
-    in_area(alloc, &mut area, head, items)
+/// Returns the answer for a routine in areas of both kinds, or in one that lacks memory once.
+fn told_in(alloc: Global, head: &Head, items: &Items) -> Result<String, AllocError> {
+    let inner = FlatArea::new(alloc);
+    if head.room.is_some() {
+        let room = head.room;
+        return in_new(alloc, Failing { inner, room }, head, items);
+    }
+    let flat = in_new(alloc, inner, head, items)?;
+    let paged = in_new(alloc, PagedArea::new(alloc), head, items)?;
+    one_or_both(alloc, flat, paged)
 }
 
 /// Returns the answer to the line of a routine of this kind.
 pub(crate) fn answer(alloc: Global, kind: RoutineKind, line: &str) -> Result<String, AllocError> {
-    let head = head_of(kind, line);
     let items = parts_of(alloc, line)?;
-    if head.room.is_some() {
-        return in_failing(alloc, &head, &items);
-    }
-    let flat = in_area(alloc, &mut FlatArea::new(alloc), &head, &items)?;
-    let paged = in_area(alloc, &mut PagedArea::new(alloc), &head, &items)?;
-    one_or_both(alloc, flat, paged)
+    told_in(alloc, &head_of(kind, line), &items)
 }

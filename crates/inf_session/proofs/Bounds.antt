@@ -1,12 +1,12 @@
 -- The amounts that the settings bound stay under them.
-use Rattle.std.proofs.Common.{nat_lt, is_none, ◌||◌, ◌≡◌, ℕ, ◌≤◌, Bool, true, false, cond, List, [], ◌∷◌, length, Option, Some, None}
+use Rattle.std.proofs.Common.{nat_lt, is_none, ◌||◌, ◌≡◌, ℕ, ◌≤◌, Bool, true, false, cond, List, length, Option, Some, None}
 use Rattle.std.proofs.Common.{refl, sym, ap, subst, ◌∙◌, arith}
 use Rattle.std.proofs.lemmas.Bool.{ltb-false}
 use Rattle.inf_sources.specs.Quoted.{is_quoted_kind}
 use Rattle.inf_scanner.specs.{declared.tokens.BadToken.BadToken, declared.tokens.TokenKind.TokenKind}
 use Rattle.inf_conditionals.specs.{declared.filtered.Filtered.Filtered, declared.filtered.Site.Site}
 use Rattle.inf_letters.specs.Letters.{warns}
-use Rattle.inf_settings.specs.{declared.setting.Setting.Setting, declared.settings.Settings.Settings}
+use Rattle.inf_settings.specs.declared.setting.Setting.{Setting}
 use Rattle.inf_settings.specs.Settings.{number_of}
 use Rattle.inf_unit.proofs.Cases.{of_both}
 use Rattle.inf_unit.specs.{Messages.FileNames, Messages.none_reported, Messages.with_full, Tokens.SourceToken}

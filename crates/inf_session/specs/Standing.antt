@@ -7,7 +7,7 @@ use Rattle.inf_devices.specs.Files.{Openings, Sources}
 use Rattle.inf_lexer.specs.Names.{innermost_name}
 use Rattle.inf_sources.specs.Open.{Open, nesting}
 use Rattle.inf_settings.specs.{declared.setting.Setting.Setting, declared.settings.Settings.Settings}
-use Rattle.inf_settings.specs.Settings.{all_settings, number_of}
+use Rattle.inf_settings.specs.Settings.{number_of}
 use Rattle.inf_compilation.specs.Works.{work as work_of}
 use Rattle.inf_session.specs.{Choices.Choices, Choices.chosen, Choices.most_quoted, Session.State, Session.begun_with, Uses.AreKept}
 use Rattle.inf_session.specs.{Uses.all_used, Veneer.next_text}

@@ -1,5 +1,5 @@
 //! The reading of a main source and of the files that it includes.
-ghost use Rattle.std.specs.Prelude.{◌≡◌, ℕ, ◌<◌, ◌≤◌, ◌⊎◌, List, IfErr, IfOk, None, OnErr, OnOk, false, length, true};
+ghost use Rattle.std.specs.Prelude.{◌≡◌, ℕ, ◌<◌, ◌≤◌, ◌⊎◌, List, IfErr, IfOk, IsErrOf, None, OnErr, OnOk, false, length, true};
 ghost use Rattle.inf_devices.specs.Files.{Openings, Rose, Sources};
 ghost use Rattle.inf_lexer.specs.Names.{can_name};
 ghost use Rattle.inf_reader.specs.Reading.{is_mode_ended};
@@ -10,7 +10,8 @@ ghost use Rattle.inf_session.specs.Promises.{in_inclusion, in_token, nowhere};
 ghost use Rattle.inf_session.specs.Session.{carried_out, followed, included, left, rested, stepped};
 ghost use Rattle.inf_session.specs.Standing.{AreWithin, Begins, HasRoom, IsBounded, IsSet, LaterWithin, came_to, ended, is_fatal, parted};
 ghost use Rattle.inf_session.specs.Standing.{resting, state, used_by};
-ghost use Rattle.inf_ending.specs.{Delivered.Delivers, Delivered.EndsCleanOf, Delivered.TakesFront, Delivered.story_in, Ending.finished};
+ghost use Rattle.inf_ending.specs.{Delivered.Appends, Delivered.Delivers, Delivered.EndsCleanOf, Delivered.TakesFront, Delivered.story_in};
+ghost use Rattle.inf_ending.specs.Ending.{finished};
 ghost use Rattle.inf_ending.specs.Faults.{Caused, HidesNoFailure, IfRead, fault_of};
 ghost use Rattle.inf_settings.specs.{Bounds.AreSet, Settings.all_settings};
 ghost use Rattle.inf_compilation.specs.Works.{work as work_of};

@@ -78,13 +78,21 @@ fn obey(
     }
 }
 
-/// Returns the answer to a line of commands.
-pub(crate) fn answer(alloc: Global, line: &str) -> Result<String, AllocError> {
-    let mut abbreviations = Abbreviations::new(alloc);
+/// Returns the answers to the commands of a line.
+fn answers(
+    alloc: Global,
+    abbreviations: &mut Abbreviations,
+    line: &str,
+) -> Result<String, AllocError> {
     let mut told = String::from_str(alloc, "abbreviations")?;
     for command in line.split(" | ").skip(1) {
         told.push_str(" | ")?;
-        told.push_str(obey(alloc, &mut abbreviations, command)?.as_str())?;
+        told.push_str(obey(alloc, abbreviations, command)?.as_str())?;
     }
     Ok(told)
+}
+
+/// Returns the answer to a line of commands.
+pub(crate) fn answer(alloc: Global, line: &str) -> Result<String, AllocError> {
+    answers(alloc, &mut Abbreviations::new(alloc), line)
 }

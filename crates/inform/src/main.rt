@@ -126,8 +126,27 @@ fn run<R: Env + Clock + Files + RandomSource + Print + Eprint + AllocGlobal>(
     }
 }
 
-/// Compiles the source that the options name, with the date of the clock in UTC, and writes the
-/// messages to the standard output. Its frame is a large one, which `main` would have from its start if this were inlined.
+/// The end of a compilation.
+#[derive(Drop)]
+enum End {
+    /// The source is compiled, and the system keeps its story.
+    Success,
+    /// The source has errors.
+    Errors,
+    /// No memory was left.
+    Memory,
+    /// The source of this name was not read.
+    Unread(String),
+    /// The messages were not written.
+    Untold(Reason),
+    /// This number of bytes of the story was written.
+    Cut(usize, Reason),
+    /// The story is whole, and the system may lose it.
+    Unkept(Reason),
+}
+
+/// Compiles the source that the options name, with the date of the clock in UTC, and writes the messages to the standard output. Shows the
+/// reason where a source or the story failed. Its frame is a large one, which `main` would have from its start if this were inlined.
 #[inline(never)]
 fn compile_files<R: Clock + Files + Print + Eprint + AllocGlobal>(
     rt: &R,
@@ -137,57 +156,70 @@ fn compile_files<R: Clock + Files + Print + Eprint + AllocGlobal>(
 ) -> Result<ExitCode, Failure> {
     let date = dates::serial(Offset::UTC.to_datetime(Timestamp::now(rt)?).date());
     let named = command_line::story_name(rt.alloc(), options)?;
-    let story_name = named.as_str();
-    let place = StoryPlace::new(story_name);
+    let place = StoryPlace::new(named.as_str());
     let mut files = DiskFiles::new(rt.alloc(), rt, &place);
+    let room = limits.room_of_story(rt, named.as_str());
+    let story = Limited::new(StorySink::new(rt, &place), room);
+    match compile_to(rt, limits, options, date, hashing, &mut files, story) {
+        End::Success => Ok(ExitCode::SUCCESS),
+        End::Errors => Ok(ExitCode::from(1)),
+        End::Memory => Err(Failure::Memory),
+        End::Unread(name) => Err(tell_source(rt, limits, name.as_str(), &files)),
+        End::Untold(reason) => Err(Failure::Output(reason)),
+        End::Cut(count, reason) => {
+            let is_source = place.is_source();
+            Err(tell_story(rt, limits, named.as_str(), count, is_source, reason))
+        }
+        End::Unkept(reason) => Err(tell_unkept(rt, limits, named.as_str(), reason)),
+    }
+}
+
+/// Compiles the source that the options name among `files`, and has the system keep the bytes of a story that is whole.
+///
+/// The devices of the messages and of the story are gone behind it: the file of the story may have the number of an output that was closed,
+/// where a reason must not go.
+fn compile_to<R: Files + Print + AllocGlobal>(
+    rt: &R,
+    limits: Limits,
+    options: &Options<'_>,
+    date: [u8; 6],
+    hashing: NameHashing,
+    files: &mut DiskFiles<'_, R>,
+    mut story: Limited<StorySink<'_, R>>,
+) -> End {
     let room = limits.room_behind(rt, limits::OUTPUT);
     let mut messages = Limited::new(OutputSink::new(io::writer(rt)), room);
-    let room_of_story = limits.room_of_story(rt, story_name);
-    let mut story = Limited::new(StorySink::new(rt, &place), room_of_story);
-    let answer = compile::compile(
+    match compile::compile(
         rt.alloc(),
         options,
         date,
         hashing,
-        &mut files,
+        files,
         &mut messages,
         &mut story,
-    );
-    match answer {
-        Ok(Status::Success) => settle(rt, limits, story_name, story),
-        Ok(Status::Errors) => Ok(ExitCode::from(1)),
-        Err(Fault::Memory) => Err(Failure::Memory),
-        Err(Fault::Read(name)) => Err(tell_source(rt, limits, name.as_str(), &files)),
-        Err(Fault::Messages) => Err(Failure::Output(Reason::of_trouble(
+    ) {
+        Ok(Status::Success) if story.sink.settle().is_ok() => End::Success,
+        Ok(Status::Success) => End::Unkept(Reason::of_trouble(false, &story.sink.trouble)),
+        Ok(Status::Errors) => End::Errors,
+        Err(Fault::Memory) => End::Memory,
+        Err(Fault::Read(name)) => End::Unread(name),
+        Err(Fault::Messages) => End::Untold(Reason::of_trouble(
             messages.is_full,
             &messages.sink.trouble,
-        ))),
-        Err(Fault::Story(count)) => {
-            let reason = Reason::of_trouble(story.is_full, &story.sink.trouble);
-            // The file of the story may have the number of an output that was closed, where the reason must not go.
-            drop(story);
-            Err(tell_story(rt, limits, story_name, count, place.is_source(), reason))
-        }
+        )),
+        Err(Fault::Story(count)) => End::Cut(
+            count,
+            Reason::of_trouble(story.is_full, &story.sink.trouble),
+        ),
     }
 }
 
-/// Has the system keep the bytes of the story, which is whole, and returns the status of success. Where it can't, shows the reason, and
-/// returns the failure of the run.
-fn settle<R: Files + Eprint>(
-    rt: &R,
-    limits: Limits,
-    name: &str,
-    mut story: Limited<StorySink<'_, R>>,
-) -> Result<ExitCode, Failure> {
-    if story.sink.settle().is_ok() {
-        return Ok(ExitCode::SUCCESS);
-    }
-    let reason = Reason::of_trouble(false, &story.sink.trouble);
-    drop(story);
+/// Shows that the system may lose the story of this name, and why. Returns the failure of the run, whose reason is shown then.
+fn tell_unkept<R: Files + Eprint>(rt: &R, limits: Limits, name: &str, reason: Reason) -> Failure {
     if may_tell(rt, limits, name) {
         let _ = rt.eprintln(format_args!("{name}: {reason}; the story may be lost"));
     }
-    Err(Failure::Told)
+    Failure::Told
 }
 
 /// The greatest number of bytes of a source.

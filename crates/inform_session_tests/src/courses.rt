@@ -1,15 +1,9 @@
 //! Courses of calls: a source, the calls with their answers, the messages, and the code of the story.
-use crate::playing::{assert_code, play};
+use crate::sessions::{Play, play_all, play_row};
 use inf_area::{Target, Value};
 use inf_calls::cx::{Closed, Want};
-use inf_devices::memory_files::MemoryFiles;
-use inf_devices::memory_sink::MemorySink;
 use inf_output::Simple;
-use inf_settings::settings::Settings;
-use inform_trials::devices::{folder, folder_of};
-use std::alloc::{AllocError, Global};
-use std::marker::Brand;
-use std::process::Abort;
+use std::alloc::AllocError;
 use std::test::Fail;
 
 /// A call.
@@ -442,99 +436,32 @@ static BROKEN_OFF: Course = Course {
     code: b"",
 };
 
-/// Makes the calls of a course with these settings among these files. Asserts the messages and the code, and returns the story, where there
-/// is one.
-pub fn play_in(
-    rt: &impl Abort,
-    alloc: Global,
-    settings: &Settings,
-    mut files: MemoryFiles,
-    course: &Course,
-) -> Result<Option<Vec<u8>>, Fail> {
-    let mut messages = MemorySink::new(alloc);
-    let story = play::<Brand, MemoryFiles, MemorySink>(
-        rt,
-        alloc,
-        settings,
-        &mut files,
-        &mut messages,
-        course.rows,
-    )?;
-    assert_eq!(rt; messages.bytes(), course.lines.as_bytes());
-    assert_code(rt, &story, course.code);
-    Ok(story)
-}
-
-/// Makes the calls of a course with the usual settings among these files.
-fn play_among(
-    rt: &impl Abort,
-    alloc: Global,
-    files: MemoryFiles,
-    course: &Course,
-) -> Result<Option<Vec<u8>>, Fail> {
-    play_in(rt, alloc, &Settings::new(), files, course)
-}
-
-/// Makes the calls of two courses of a source, of which each makes a story, and asserts that these are the same.
-fn play_alike(
-    rt: &impl Abort,
-    alloc: Global,
-    source: &[u8],
-    first: &Course,
-    second: &Course,
-) -> Result<(), Fail> {
-    let one = play_among(rt, alloc, folder(alloc, source)?, first)?;
-    let other = play_among(rt, alloc, folder(alloc, source)?, second)?;
-    match (one, other) {
-        (Some(one), Some(other)) => {
-            assert_eq!(rt; one.as_slice(), other.as_slice());
-            Ok(())
-        }
-        _ => Err(AllocError.into()),
-    }
-}
-
-/// Makes the calls of a course that includes `c.h` with these bytes.
-fn play_including(
-    rt: &impl Abort,
-    alloc: Global,
-    included: &[u8],
-    course: &Course,
-) -> Result<(), Fail> {
-    let files = folder_of(alloc, &[("t.inf", course.source), ("c.h", included)])?;
-    play_among(rt, alloc, files, course)?;
-    Ok(())
-}
-
-/// Makes the calls of each course with the usual settings.
-fn play_all(rt: &impl Abort, alloc: Global, courses: &[Course]) -> Result<(), Fail> {
-    for course in courses {
-        play_among(rt, alloc, folder(alloc, course.source)?, course)?;
-    }
-    Ok(())
-}
-
 #[test]
 fn calls_have_these_answers(rt: HostRuntime) -> Result<(), Fail> {
-    play_all(&rt, rt.alloc(), &USUAL)
-}
-
-#[test]
-fn headers_have_these_answers(rt: HostRuntime) -> Result<(), Fail> {
-    play_all(&rt, rt.alloc(), &HEADERS)
+    play_all(&rt, rt.alloc(), &USUAL, None)?;
+    play_all(&rt, rt.alloc(), &HEADERS, None)?;
+    let including = Play {
+        included: b"Constant K = 3;",
+        ..Play::new(&INCLUDING)
+    };
+    play_row(&rt, rt.alloc(), &including)?;
+    let broken_off = Play {
+        included: b"[ F x;\x0Ax = 1",
+        ..Play::new(&BROKEN_OFF)
+    };
+    play_row(&rt, rt.alloc(), &broken_off)?;
+    Ok(())
 }
 
 #[test]
 fn a_routine_by_its_parts_is_the_whole_one(rt: HostRuntime) -> Result<(), Fail> {
-    play_alike(&rt, rt.alloc(), ROUTINE, &PIECEWISE, &WHOLE)
-}
-
-#[test]
-fn calls_include_a_file(rt: HostRuntime) -> Result<(), Fail> {
-    play_including(&rt, rt.alloc(), b"Constant K = 3;", &INCLUDING)
-}
-
-#[test]
-fn a_text_is_broken_off_at_the_end_of_a_file(rt: HostRuntime) -> Result<(), Fail> {
-    play_including(&rt, rt.alloc(), b"[ F x;\x0Ax = 1", &BROKEN_OFF)
+    let parts = play_row(&rt, rt.alloc(), &Play::new(&PIECEWISE))?;
+    let whole = play_row(&rt, rt.alloc(), &Play::new(&WHOLE))?;
+    match (parts, whole) {
+        (Some(parts), Some(whole)) => {
+            assert_eq!(rt; parts.as_slice(), whole.as_slice());
+            Ok(())
+        }
+        _ => Err(AllocError.into()),
+    }
 }

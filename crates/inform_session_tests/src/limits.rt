@@ -1,30 +1,9 @@
 //! Courses of calls with a unit that passes a limit.
-use crate::courses::{ALONE, Answer, Call, Course, STACK, UNLESS, play_in};
+use crate::courses::{ALONE, Answer, Call, Course, STACK, UNLESS};
+use crate::sessions::{Play, play_all, play_row};
 use inf_area::Value;
 use inf_output::Simple;
-use inf_settings::settings::Settings;
-use inform_trials::devices::folder;
-use std::alloc::Global;
-use std::process::Abort;
 use std::test::Fail;
-
-/// One token more than an expression may have.
-static LONG: Course = Course {
-    source: b"[ Main x; x = 1; x = 1 + 1; x = 2; x; ]; [ F;",
-    rows: &[
-        (Call::Header, Answer::Done),
-        (ALONE, Answer::Left(None)),
-        (ALONE, Answer::Fatal),
-        (UNLESS, Answer::Fatal),
-        (Call::Constant, Answer::Fatal),
-        (Call::Line, Answer::Fatal),
-        (Call::Close, Answer::Fatal),
-        (Call::Routine, Answer::Fatal),
-        (Call::Header, Answer::Fatal),
-    ],
-    lines: "t.inf(1): Fatal error: MAX_EXPRESSION_NODES is exceeded\n",
-    code: b"",
-};
 
 /// As many brackets as there may be, and one more.
 static DEEP: Course = Course {
@@ -117,7 +96,24 @@ static FULL: [(u32, Course); 7] = [
 const TOO_LONG: &str = "t.inf(1): Fatal error: MAX_EXPRESSION_NODES is exceeded\n";
 
 /// Texts of each kind with an expression of four tokens at least, where three are as many as it may have. A semicolon is none of them.
-static LONGER: [Course; 4] = [
+static LONGER: [Course; 5] = [
+    // Each call behind a fatal error.
+    Course {
+        source: b"[ Main x; x = 1; x = 1 + 1; x = 2; x; ]; [ F;",
+        rows: &[
+            (Call::Header, Answer::Done),
+            (ALONE, Answer::Left(None)),
+            (ALONE, Answer::Fatal),
+            (UNLESS, Answer::Fatal),
+            (Call::Constant, Answer::Fatal),
+            (Call::Line, Answer::Fatal),
+            (Call::Close, Answer::Fatal),
+            (Call::Routine, Answer::Fatal),
+            (Call::Header, Answer::Fatal),
+        ],
+        lines: TOO_LONG,
+        code: b"",
+    },
     Course {
         source: b"[ Main x; x == 1; x == 1 + 1; ];",
         rows: &[
@@ -151,42 +147,26 @@ static LONGER: [Course; 4] = [
     },
 ];
 
-/// Makes the calls of a course where a setting has this value.
-fn play_with(
-    rt: &impl Abort,
-    alloc: Global,
-    setting: &[u8],
-    most: u32,
-    course: &Course,
-) -> Result<(), Fail> {
-    let mut settings = Settings::new();
-    settings.set(setting, most)?;
-    play_in(rt, alloc, &settings, folder(alloc, course.source)?, course)?;
-    Ok(())
-}
+/// The names of two settings.
+const CODE: &[u8] = b"MAX_CODE";
+
+const NODES: &[u8] = b"MAX_EXPRESSION_NODES";
 
 #[test]
-fn full(rt: HostRuntime) -> Result<(), Fail> {
+fn a_unit_passes_a_limit(rt: HostRuntime) -> Result<(), Fail> {
     for (most, course) in &FULL {
-        play_with(&rt, rt.alloc(), b"MAX_CODE", *most, course)?;
+        let full = Play {
+            setting: Some((CODE, *most)),
+            ..Play::new(course)
+        };
+        play_row(&rt, rt.alloc(), &full)?;
     }
+    let three = Some((NODES, 3));
+    play_all(&rt, rt.alloc(), &LONGER, three)?;
+    let deep = Play {
+        setting: Some((NODES, 1000)),
+        ..Play::new(&DEEP)
+    };
+    play_row(&rt, rt.alloc(), &deep)?;
     Ok(())
-}
-
-#[test]
-fn long(rt: HostRuntime) -> Result<(), Fail> {
-    play_with(&rt, rt.alloc(), b"MAX_EXPRESSION_NODES", 3, &LONG)
-}
-
-#[test]
-fn longer(rt: HostRuntime) -> Result<(), Fail> {
-    for course in &LONGER {
-        play_with(&rt, rt.alloc(), b"MAX_EXPRESSION_NODES", 3, course)?;
-    }
-    Ok(())
-}
-
-#[test]
-fn deep(rt: HostRuntime) -> Result<(), Fail> {
-    play_with(&rt, rt.alloc(), b"MAX_EXPRESSION_NODES", 1000, &DEEP)
 }

@@ -1,12 +1,8 @@
 //! Calls at which the session fails: the source cannot be read further, or the messages cannot be written.
 use crate::courses::{ALONE, Answer, Call, Course, UNLESS};
-use crate::playing::play;
-use inf_devices::memory_files::MemoryFiles;
-use inf_devices::memory_sink::MemorySink;
-use inf_settings::settings::Settings;
-use inform_trials::devices::{Fused, Narrow, folder};
+use crate::sessions::{Play, play_row};
+use inform_trials::devices::joined;
 use std::alloc::Global;
-use std::marker::Brand;
 use std::process::Abort;
 use std::test::Fail;
 
@@ -154,40 +150,33 @@ static UNWRITTEN: [Course; 9] = [
     },
 ];
 
-/// Makes the calls of a row where a source has 5,000 spaces more, and its second read fails.
-fn lose_source(rt: &impl Abort, alloc: Global, row: &Course) -> Result<(), Fail> {
-    let mut source = row.source.repeat(alloc, 1)?;
-    source.extend_from_slice(b" ".as_slice().repeat(alloc, 5000)?.as_slice())?;
-    let settings = Settings::new();
-    let mut files = Fused::in_parts(folder(alloc, source.as_slice())?, 2, usize::MAX);
-    let mut messages = MemorySink::new(alloc);
-    play::<Brand, Fused, MemorySink>(rt, alloc, &settings, &mut files, &mut messages, row.rows)?;
-    assert_eq!(rt; messages.bytes(), row.lines.as_bytes());
-    Ok(())
-}
-
-/// Makes the calls of a row where the sink takes five bytes of messages.
-fn lose_messages(rt: &impl Abort, alloc: Global, row: &Course) -> Result<(), Fail> {
-    let settings = Settings::new();
-    let mut files = folder(alloc, row.source)?;
-    let mut messages = Narrow::new(alloc, usize::MAX, FRONT.len());
-    play::<Brand, MemoryFiles, Narrow>(rt, alloc, &settings, &mut files, &mut messages, row.rows)?;
-    assert_eq!(rt; messages.whole.bytes(), row.lines.as_bytes());
+/// Plays a course where its source has 5,000 spaces more, and its second read fails.
+fn lose_source(rt: &impl Abort, alloc: Global, course: &Course) -> Result<(), Fail> {
+    let source = joined(alloc, &[(course.source, 1), (b" ", 5000)])?;
+    let unread = Play {
+        calls: 2,
+        ..Play::of_source(source.as_slice(), course)
+    };
+    play_row(rt, alloc, &unread)?;
     Ok(())
 }
 
 #[test]
 fn sources_cannot_be_read(rt: HostRuntime) -> Result<(), Fail> {
-    for row in &UNREAD {
-        lose_source(&rt, rt.alloc(), row)?;
+    for course in &UNREAD {
+        lose_source(&rt, rt.alloc(), course)?;
     }
     Ok(())
 }
 
 #[test]
 fn messages_cannot_be_written(rt: HostRuntime) -> Result<(), Fail> {
-    for row in &UNWRITTEN {
-        lose_messages(&rt, rt.alloc(), row)?;
+    for course in &UNWRITTEN {
+        let unwritten = Play {
+            room: FRONT.len(),
+            ..Play::new(course)
+        };
+        play_row(&rt, rt.alloc(), &unwritten)?;
     }
     Ok(())
 }

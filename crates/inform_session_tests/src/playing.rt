@@ -1,27 +1,21 @@
 //! The calls of a course, one after the other, and what has to come of them.
 ghost use Rattle.inf_calls.specs.Answers.{is_failure, is_lost};
 ghost use Rattle.inf_session.specs.{Choices.chosen, Standing.IsSet};
-ghost use Rattle.inf_settings.specs.Bounds.{AreSet};
 ghost use Rattle.std.specs.Prelude.{◌≡◌, ◌<◌, false, length};
 
 use crate::courses::{Answer, Call};
-use crate::sessions::{begin, finish};
-use inf_calls::cx::{Branch, Cx, Want};
+use crate::sessions::Doing;
+use crate::steps::assert_behind;
+use inf_calls::cx::{Branch, Cx};
 use inf_calls::faults::UnitFault;
 use inf_devices::files::Files;
-use inf_devices::memory_sink::MemorySink;
 use inf_devices::sinks::Sink;
 use inf_ending::faults::Fault;
 use inf_opcode::Label;
 use inf_session::session::Step;
 use inf_settings::bounds::Bounds;
-use inf_settings::settings::Settings;
-use std::alloc::Global;
+use inform_trials::devices::Narrow;
 use std::process::Abort;
-use std::test::Fail;
-
-/// Place of the first routine of a source in a story that has nothing else, behind the first routine of the story.
-const FIRST_CODE: usize = 0x3C8;
 
 /// Returns the answer that a step is.
 fn answer_of(step: Step) -> Answer {
@@ -126,13 +120,39 @@ fn make<B: Bounds, F: Files, M: Sink>(
     }
 }
 
-/// Makes the calls of `rows` up to one by which the session fails, and asserts their answers.
-fn make_all<B: Bounds, F: Files, M: Sink>(
+/// Returns the call at a place of what is to be done, and its answer: steps read directives.
+fn row_at(doing: Doing<'_>, place: usize) -> Option<(Call, Answer)> {
+    match doing {
+        Doing::Calls(rows) => rows.get(place).copied(),
+        Doing::Steps(steps) => {
+            let (step, _, _, _) = steps.get(place)?;
+            Some((Call::Directive, answer_of(*step)))
+        }
+    }
+}
+
+/// Asserts the messages behind a call, and the numbers of all that the settings bound, where the call is a step.
+fn assert_done(
+    rt: &impl Abort,
+    doing: Doing<'_>,
+    place: usize,
+    messages: &[u8],
+    held: [usize; 15],
+) {
+    if let Doing::Steps(steps) = doing {
+        if let Some(wanted) = steps.get(place) {
+            assert_behind(rt, wanted, messages, held);
+        }
+    }
+}
+
+/// Makes the calls that are to be made, up to one by which the session fails, and asserts their answers.
+pub fn make_all<B: Bounds, F: Files>(
     rt: &impl Abort,
     cx: &mut Cx<'_, B>,
     files: &mut F,
-    messages: &mut M,
-    rows: &[(Call, Answer)],
+    messages: &mut Narrow,
+    doing: Doing<'_>,
 )
     requires is_open { length cx.old.session.open_files.outer < F.depth files.old }
     requires goes { cx.old.session.open_files.lexer.has_failed ≡ false }
@@ -141,42 +161,16 @@ fn make_all<B: Bounds, F: Files, M: Sink>(
     ensures is_open { length cx.new.session.open_files.outer < F.depth files.new }
 {
     let mut label = Label { number: 0 };
-    for (call, wanted) in rows {
-        let made = make(cx, files, messages, &mut label, *call);
+    for place in 0..doing.len() {
+        let Some((call, wanted)) = row_at(doing, place) else {
+            return;
+        };
+        let made = make(cx, files, messages, &mut label, call);
         let answer = answered(&made);
-        assert!(rt; answer == *wanted, "{call:?}: {answer:?} for {wanted:?}");
+        assert!(rt; answer == wanted, "{call:?}: {answer:?} for {wanted:?}");
         if has_failed(&made) {
             return;
         }
-    }
-}
-
-/// Makes the calls of `rows` with these settings, from the front of `t.inf` on. Returns the story, where there is one.
-pub fn play<B: Bounds, F: Files, M: Sink>(
-    rt: &impl Abort,
-    alloc: Global,
-    settings: &Settings,
-    files: &mut F,
-    messages: &mut M,
-    rows: &[(Call, Answer)],
-) -> Result<Option<Vec<u8>>, Fail>
-    requires { AreSet B.most settings.now }
-{
-    let mut cx = begin::<B, F>(alloc, settings, files)?;
-    make_all(rt, &mut cx, files, messages, rows);
-    let mut others = MemorySink::new(alloc);
-    match finish(cx, files, &mut others) {
-        Ok(compiled) => Ok(compiled.story),
-        Err(_) => Ok(None),
-    }
-}
-
-/// Asserts that a story has this code; none where there is no story.
-pub fn assert_code(rt: &impl Abort, story: &Option<Vec<u8>>, code: &[u8]) {
-    if let Some(story) = story {
-        let bytes = story.as_slice().iter().skip(FIRST_CODE);
-        assert!(rt; bytes.zip(code).all(|(is, wanted)| is == wanted));
-    } else {
-        assert!(rt; code.is_empty());
+        assert_done(rt, doing, place, messages.whole.bytes(), cx.session.held());
     }
 }

@@ -1,19 +1,6 @@
 //! The steps of a session, the messages behind each, and the numbers then of all that the settings bound.
-ghost use Rattle.inf_session.specs.Standing.{IsSet};
-ghost use Rattle.inf_settings.specs.Bounds.{AreSet};
-ghost use Rattle.std.specs.Prelude.{◌≡◌, ◌<◌, false, length};
-
-use crate::sessions::{begin, finish};
-use inf_calls::cx::Cx;
-use inf_devices::memory_files::MemoryFiles;
-use inf_devices::memory_sink::MemorySink;
-use inf_ending::compiled::{Compiled, Status};
+use crate::sessions::{Play, play_row};
 use inf_session::session::Step;
-use inf_settings::bounds::Bounds;
-use inf_settings::settings::Settings;
-use inform_trials::devices::folder;
-use std::alloc::Global;
-use std::marker::Brand;
 use std::process::Abort;
 use std::test::Fail;
 
@@ -51,29 +38,19 @@ const BAD: &str = "abc\ne\nt.inf(4): Error: Syntax error at \"5\"\n";
 /// The lines behind a bad token that is the whole source.
 const FIVE: &str = "t.inf(1): Error: Syntax error at \"5\"\n";
 
-/// Asserts that there are errors, and no story.
-fn assert_refused(rt: &impl Abort, compiled: &Compiled) {
-    assert!(rt; compiled.status == Status::Errors);
-    assert!(rt; compiled.story.is_none());
-}
-
 /// The outcome of a step, the messages behind it, and the longest quoted token, the tokens of the longest expression,
 /// the names, the most labels of a routine, the bytes of code, and the references then; the words, objects, verbs and
 /// actions, and the bytes of grammar, of properties, of arrays, of low strings and of strings.
-type Wanted = (Step, &'static str, [usize; 6], [usize; 9]);
+pub type Wanted = (Step, &'static str, [usize; 6], [usize; 9]);
 
 /// The last nine numbers without a directive or a statement for them: four objects, whose property tables have 30
 /// bytes, and a low string of two bytes.
 const BARE: [usize; 9] = [0, 4, 0, 0, 0, 30, 0, 2, 0];
 
-/// Asserts that these and no more messages were written.
-fn assert_told(rt: &impl Abort, messages: &[u8], lines: &[u8]) {
-    assert_eq!(rt; messages, lines);
-}
-
-/// Asserts the numbers of all that the settings bound.
-fn assert_held(rt: &impl Abort, held: [usize; 15], counts: [usize; 6], tables: [usize; 9]) {
-    let [quoted, tokens, names, labels, code, references] = counts;
+/// Asserts the messages behind a step, and the numbers of all that the settings bound.
+pub fn assert_behind(rt: &impl Abort, wanted: &Wanted, messages: &[u8], held: [usize; 15]) {
+    let (_, lines, counts, tables) = wanted;
+    let [quoted, tokens, names, labels, code, references] = *counts;
     let [
         words,
         objects,
@@ -84,7 +61,8 @@ fn assert_held(rt: &impl Abort, held: [usize; 15], counts: [usize; 6], tables: [
         arrays,
         low,
         strings,
-    ] = tables;
+    ] = *tables;
+    assert_eq!(rt; messages, lines.as_bytes());
     let wanted = [
         quoted, tokens, names, labels, words, objects, verbs, actions, grammar, properties, arrays,
         low, code, strings, references,
@@ -263,134 +241,48 @@ const REFERENCES: &str = "t.inf(1): Fatal error: MAX_REFS is exceeded\n";
 /// end of the session.
 static REFUSED: [Wanted; 1] = [(Step::Fatal, "", [0, 0, 0, 0, 0, 4], BARE)];
 
-/// Makes the steps of `wanted`, one after the other.
-fn make_steps<B: Bounds>(
-    rt: &impl Abort,
-    cx: &mut Cx<'_, B>,
-    files: &mut MemoryFiles,
-    messages: &mut MemorySink,
-    wanted: &[Wanted],
-) -> Result<(), Fail>
-    requires is_open { length cx.old.session.open_files.outer < length files.old.openings.open_places }
-    requires goes { cx.old.session.open_files.lexer.has_failed ≡ false }
-    requires set { IsSet cx.old.session }
-    ensures is_open { length cx.new.session.open_files.outer < length files.new.openings.open_places }
-{
-    for (step, lines, counts, tables) in wanted {
-        let came = cx.session.step(files, messages)?;
-        assert!(rt; came == *step, "{lines:?}");
-        assert_told(rt, messages.bytes(), lines.as_bytes());
-        assert_held(rt, cx.session.held(), *counts, *tables);
-    }
-    Ok(())
-}
+/// A word counts once, as an entry of an array it is an expression of one token, and each is a reference of two bytes.
+const WORDS: &[u8] = b"[ Main; ]; Array a --> 'xa' 'xb' 'xa';";
 
-/// Reads a source in these steps with these settings, and ends the session behind them with the messages `last`, where they are given.
-fn play_under<B: Bounds>(
-    rt: &impl Abort,
-    alloc: Global,
-    settings: &Settings,
-    source: &[u8],
-    wanted: &[Wanted],
-    last: Option<&str>,
-) -> Result<(), Fail>
-    requires { AreSet B.most settings.now }
-{
-    let mut files = folder(alloc, source)?;
-    let mut cx = begin::<B, MemoryFiles>(alloc, settings, &mut files)?;
-    let mut messages = MemorySink::new(alloc);
-    let made = make_steps(rt, &mut cx, &mut files, &mut messages, wanted);
-    let compiled = finish(cx, &mut files, &mut messages);
-    made?;
-    if let Some(lines) = last {
-        assert_told(rt, messages.bytes(), lines.as_bytes());
-        assert_refused(rt, &compiled?);
-    }
-    Ok(())
-}
-
-/// Reads a source in these steps with these settings, and ends the session behind them with the messages `last`, where they are given.
-fn play_with(
-    rt: &impl Abort,
-    alloc: Global,
-    settings: &Settings,
-    source: &[u8],
-    wanted: &[Wanted],
-    last: Option<&str>,
-) -> Result<(), Fail> {
-    play_under::<Brand>(rt, alloc, settings, source, wanted, last)
-}
-
-/// Reads a source in these steps, and ends the session.
-fn play(rt: &impl Abort, alloc: Global, source: &[u8], wanted: &[Wanted]) -> Result<(), Fail> {
-    play_with(rt, alloc, &Settings::new(), source, wanted, None)
-}
+/// Code has begun behind the header of an array, which is the first unit: a semicolon alone is none.
+const HEADER: &[u8] = b";Array a --> 1 2;";
 
 #[test]
 fn a_step_reads_one_part(rt: HostRuntime) -> Result<(), Fail> {
-    play(&rt, rt.alloc(), SOURCE, &STEPS)
+    let rows = [
+        Play::of_steps(SOURCE, &STEPS),
+        Play::of_steps(SIDES, &CHOICES),
+        Play::of_steps(SUPPLIED, &NEEDED),
+        Play::of_steps(EXPRESSIONS, &COUNTED),
+        // Behind the last of these steps there is something of all that the settings bound.
+        Play::of_steps(TABLES, &FILLED),
+        Play::of_steps(WORDS, &ENTRIES),
+        Play::of_steps(HEADER, &HEADED),
+    ];
+    for row in &rows {
+        play_row(&rt, rt.alloc(), row)?;
+    }
+    Ok(())
 }
 
-#[test]
-fn a_side_that_is_left_out_is_part_of_its_directive(rt: HostRuntime) -> Result<(), Fail> {
-    play(&rt, rt.alloc(), SIDES, &CHOICES)
-}
+/// The name of the setting of references.
+const REFS: &[u8] = b"MAX_REFS";
 
-#[test]
-fn a_routine_of_the_veneer_is_a_part(rt: HostRuntime) -> Result<(), Fail> {
-    play(&rt, rt.alloc(), SUPPLIED, &NEEDED)
-}
-
-#[test]
-fn expressions_and_labels_are_counted(rt: HostRuntime) -> Result<(), Fail> {
-    play(&rt, rt.alloc(), EXPRESSIONS, &COUNTED)
-}
-
-/// Behind the last of these steps there is something of all that the settings bound.
-#[test]
-fn what_tables_take_is_counted(rt: HostRuntime) -> Result<(), Fail> {
-    play(&rt, rt.alloc(), TABLES, &FILLED)
-}
-
-/// A word counts once, as an entry of an array it is an expression of one token, and each is a reference of two bytes.
-#[test]
-fn words_and_entries_are_counted(rt: HostRuntime) -> Result<(), Fail> {
-    let source = b"[ Main; ]; Array a --> 'xa' 'xb' 'xa';";
-    play(&rt, rt.alloc(), source, &ENTRIES)
-}
-
-/// Code has begun behind the header of an array, which is the first unit: a semicolon alone is none.
-#[test]
-fn code_begins_with_the_header_of_an_array(rt: HostRuntime) -> Result<(), Fail> {
-    play(&rt, rt.alloc(), b";Array a --> 1 2;", &HEADED)
-}
-
-/// Behind the last step a session ends with the last line.
+/// Checks the last lines of two sessions: behind a bad token, and where the references in tables alone would pass their setting, so that
+/// nothing is read.
 #[test]
 fn a_session_is_finished(rt: HostRuntime) -> Result<(), Fail> {
-    let lines =
-        "t.inf(1): Error: Syntax error at \"5\"\nt.inf(1): Error: No routine \"Main\"\nErrors: 2, warnings: 0 (no output)\n";
-    play_with(
-        &rt,
-        rt.alloc(),
-        &Settings::new(),
-        b"5;",
-        &BAD_STEPS,
-        Some(lines),
-    )
-}
-
-/// Where the references in tables alone would pass their setting, nothing is read.
-#[test]
-fn references_in_tables_are_told_first(rt: HostRuntime) -> Result<(), Fail> {
-    let mut settings = Settings::new();
-    settings.set(b"MAX_REFS", 3)?;
-    play_with(
-        &rt,
-        rt.alloc(),
-        &settings,
-        b"\n\n5;",
-        &REFUSED,
-        Some(REFERENCES),
-    )
+    let bad = Play {
+        lines: FIVE,
+        last: Some("t.inf(1): Error: No routine \"Main\"\nErrors: 2, warnings: 0 (no output)\n"),
+        ..Play::of_steps(b"5;", &BAD_STEPS)
+    };
+    play_row(&rt, rt.alloc(), &bad)?;
+    let refused = Play {
+        setting: Some((REFS, 3)),
+        last: Some(REFERENCES),
+        ..Play::of_steps(b"\n\n5;", &REFUSED)
+    };
+    play_row(&rt, rt.alloc(), &refused)?;
+    Ok(())
 }

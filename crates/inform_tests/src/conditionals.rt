@@ -1,9 +1,8 @@
 //! Conditionals: the tokens of a source that are read, and the message about a conditional without its other end.
-use crate::running::read_folders;
-use std::test::Fail;
+use crate::trials::Folder;
 
-/// Files of a folder, with all messages of `t.inf` among them.
-static FOLDERS: [(&[(&str, &[u8])], &str); 27] = [
+/// The rows of conditionals.
+pub static FOLDERS: [Folder; 27] = [
     // A name of an included file is known; one that is declared later is not; a file ends with an open conditional.
     (
         &[
@@ -248,8 +247,3 @@ static FOLDERS: [(&[(&str, &[u8])], &str); 27] = [
         "a\nc\nErrors: 0, warnings: 0\n",
     ),
 ];
-
-#[test]
-fn conditionals_choose_what_is_read(rt: HostRuntime) -> Result<(), Fail> {
-    read_folders(&rt, rt.alloc(), &FOLDERS)
-}

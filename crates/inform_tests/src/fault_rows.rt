@@ -17,7 +17,14 @@ pub struct Row {
 
 /// The rows of sources. Their calls are counted by hand: a file is opened, each of its bytes is read, and its end is read.
 /// A message comes behind the call that reads the semicolon of its directive.
-pub static ROWS: [Row; 6] = [
+pub static ROWS: [Row; 7] = [
+    // No byte.
+    Row {
+        files: &[("t.inf", b"")],
+        told: &[(0, "t.inf", "")],
+        calls: 2,
+        lines: "t.inf(1): Error: No routine \"Main\"\nErrors: 1, warnings: 0 (no output)\n",
+    },
     // One routine.
     Row {
         files: &[("t.inf", b"[ Main; print \"hello\"; ];")],

@@ -1,12 +1,22 @@
 //! Each call of a device fails in turn: openings and reads of files, writes of messages and of the story.
 use crate::fault_rows::{ROWS, Row};
-use crate::running::{assert_holds, assert_written, fail_to_read, read, run};
-use inf_devices::memory_sink::MemorySink;
-use inf_program::{Fault, Status};
-use inform_trials::devices::{Fused, Narrow, folder_of};
+use crate::reading::HEADED;
+use crate::trials::{ALL, Devices, Outcome, Trial, play};
+use inform_trials::devices::{Piece, joined};
 use std::alloc::Global;
 use std::process::Abort;
 use std::test::Fail;
+
+/// The calls that fail in turn.
+#[derive(Clone, Copy)]
+enum Turn {
+    /// Each opening and each read, which gives one byte.
+    Read,
+    /// Each write of messages, which takes one byte.
+    Message,
+    /// Each write of the story, which takes 100 bytes: before its first byte and before its last.
+    Story,
+}
 
 /// Returns the name of the file that a failure of the call behind `calls` others names, and the messages before it.
 fn told_at(row: &Row, calls: usize) -> (&'static str, &'static str) {
@@ -19,154 +29,93 @@ fn told_at(row: &Row, calls: usize) -> (&'static str, &'static str) {
     told
 }
 
-/// Asserts the messages and the failure where the call behind `calls` others fails.
-fn fail_behind(rt: &impl Abort, alloc: Global, row: &Row, calls: usize) -> Result<(), Fail> {
-    let mut files = Fused::new(folder_of(alloc, row.files)?, calls);
-    let (name, lines) = told_at(row, calls);
-    fail_to_read(rt, alloc, &mut files, name, lines)
+/// Returns the trial of a row at a place of a turn, where the story has `length` bytes.
+fn trial_at(row: &Row, turn: Turn, place: usize, length: usize) -> Trial<'static> {
+    let mut devices = ALL;
+    let mut outcome = Outcome::Read;
+    let mut lines = row.lines;
+    match turn {
+        Turn::Read => {
+            devices.read = 1;
+            devices.calls = place;
+            if place < row.calls {
+                let (name, told) = told_at(row, place);
+                outcome = Outcome::Unread(name);
+                lines = told;
+            }
+        }
+        Turn::Message => {
+            devices.messages = (1, place);
+            if let Some((front, rest)) = lines.split_at_checked(place) {
+                if !rest.is_empty() {
+                    outcome = Outcome::Untold;
+                    lines = front;
+                }
+            }
+        }
+        Turn::Story => {
+            let behind = if place % 2 == 0 { 0 } else { 99 };
+            let room = (place / 2).saturating_mul(100).saturating_add(behind);
+            devices.story = (100, room);
+            if room < length {
+                outcome = Outcome::Cut(room);
+            }
+        }
+    }
+    Trial {
+        devices,
+        outcome,
+        lines,
+        ..Trial::new(row.files, row.lines)
+    }
 }
 
-/// Asserts that nothing fails where all calls of `row` are allowed.
-fn succeed(rt: &impl Abort, alloc: Global, row: &Row) -> Result<(), Fail> {
-    let mut files = Fused::new(folder_of(alloc, row.files)?, row.calls);
-    read(rt, alloc, &mut files, row.lines)
+/// Has the calls of a turn fail, one in each trial and none in the last. Asserts what comes of each, and the bytes of the story, of which
+/// `whole` has all.
+fn fail_in_turn(
+    rt: &impl Abort,
+    alloc: Global,
+    row: &Row,
+    turn: Turn,
+    whole: &[u8],
+) -> Result<(), Fail> {
+    let last = match turn {
+        Turn::Read => row.calls,
+        Turn::Message => row.lines.len(),
+        Turn::Story => (whole.len() / 100).saturating_mul(2).saturating_add(2),
+    };
+    for place in 0..=last {
+        let trial = trial_at(row, turn, place, whole.len());
+        let written = play(rt, alloc, &trial)?;
+        let count = match trial.outcome {
+            Outcome::Read => whole.len(),
+            Outcome::Unread(_) | Outcome::Untold => 0,
+            Outcome::Cut(count) => count,
+        };
+        let front = &whole[..whole.len().min(count)];
+        assert_eq!(rt; written.as_slice(), front);
+    }
+    Ok(())
+}
+
+/// Has each call of a turn fail that a row makes.
+fn fail_each(rt: &impl Abort, alloc: Global, row: &Row, turn: Turn) -> Result<(), Fail> {
+    let whole = play(rt, alloc, &Trial::new(row.files, row.lines))?;
+    fail_in_turn(rt, alloc, row, turn, whole.as_slice())
 }
 
 #[test]
 fn each_open_and_each_read_fails_in_turn(rt: HostRuntime) -> Result<(), Fail> {
     for row in &ROWS {
-        for calls in 0..row.calls {
-            fail_behind(&rt, rt.alloc(), row, calls)?;
-        }
-        succeed(&rt, rt.alloc(), row)?;
+        fail_each(&rt, rt.alloc(), row, Turn::Read)?;
     }
-    Ok(())
-}
-
-/// Returns a source whose head has two words, each behind more spaces than a window has bytes.
-fn with_a_long_head(alloc: Global) -> Result<Vec<u8>, Fail> {
-    let spaces = b" ".as_slice().repeat(alloc, 5000)?;
-    let mut source = Vec::from_slice(alloc, b"!% -D")?;
-    source.extend_from_slice(spaces.as_slice())?;
-    source.extend_from_slice(b"-w\n!%")?;
-    source.extend_from_slice(spaces.as_slice())?;
-    source.extend_from_slice(b"$MAX_CODE=999\n[ Main x; ]; #Ifdef DEBUG; Message \"d\"; #Endif;")?;
-    Ok(source)
-}
-
-/// Asserts the messages about the source with a long head, given 1,000 bytes a read, where the call behind `calls` others
-/// fails, and where none does.
-fn read_a_long_head(rt: &impl Abort, alloc: Global, calls: usize) -> Result<(), Fail> {
-    let source = with_a_long_head(alloc)?;
-    let folder = folder_of(alloc, &[("t.inf", source.as_slice())])?;
-    let mut files = Fused::in_parts(folder, calls, 1000);
-    if calls < CALLS_OF_A_LONG_HEAD {
-        let lines = if calls + 1 < CALLS_OF_A_LONG_HEAD {
-            ""
-        } else {
-            "d\n"
-        };
-        fail_to_read(rt, alloc, &mut files, "t.inf", lines)
-    } else {
-        read(rt, alloc, &mut files, "d\nErrors: 0, warnings: 0\n")
-    }
-}
-
-/// Number of calls for the source with a long head: it is opened, its 10,071 bytes come in eleven reads, and its end is
-/// read.
-const CALLS_OF_A_LONG_HEAD: usize = 1 + 11 + 1;
-
-#[test]
-fn each_read_of_a_long_head_fails_in_turn(rt: HostRuntime) -> Result<(), Fail> {
-    for calls in 0..=CALLS_OF_A_LONG_HEAD {
-        read_a_long_head(&rt, rt.alloc(), calls)?;
-    }
-    Ok(())
-}
-
-/// Asserts that the first `room` bytes of the messages were written, or all where there are fewer, and no story before the
-/// last of them.
-fn assert_cut(rt: &impl Abort, row: &Row, messages: &[u8], story: &[u8], room: usize) {
-    let count = room.min(row.lines.len());
-    assert_written(rt, messages, &row.lines.as_bytes()[..count]);
-    assert_holds(rt, &room, count == row.lines.len() || story.is_empty());
-}
-
-/// Asserts the outcome where `room` bytes of messages are taken, one a write: all are written, or the writing of messages
-/// fails.
-fn tell_in_part(rt: &impl Abort, alloc: Global, row: &Row, room: usize) -> Result<(), Fail> {
-    let mut files = folder_of(alloc, row.files)?;
-    let mut messages = Narrow::new(alloc, 1, room);
-    let mut story = MemorySink::new(alloc);
-    let ended = run(alloc, &mut files, &mut messages, &mut story)?;
-    assert_cut(rt, row, messages.whole.bytes(), story.bytes(), room);
-    let is_right = match &ended {
-        Ok(_) => room >= row.lines.len(),
-        Err(Fault::Messages) => room < row.lines.len(),
-        Err(_) => false,
-    };
-    assert_holds(rt, &room, is_right);
     Ok(())
 }
 
 #[test]
 fn each_write_of_messages_fails_in_turn(rt: HostRuntime) -> Result<(), Fail> {
     for row in &ROWS {
-        for room in 0..=row.lines.len() {
-            tell_in_part(&rt, rt.alloc(), row, room)?;
-        }
-    }
-    Ok(())
-}
-
-/// Returns the story of a source: no bytes where it has errors.
-fn story_of(alloc: Global, row: &Row) -> Result<MemorySink, Fail> {
-    let mut files = folder_of(alloc, row.files)?;
-    let mut messages = MemorySink::new(alloc);
-    let mut story = MemorySink::new(alloc);
-    let _ = run(alloc, &mut files, &mut messages, &mut story)?;
-    Ok(story)
-}
-
-/// Asserts that the first `room` bytes of a story were written, that the fault says their number, and that all messages
-/// were written.
-fn write_in_part(
-    rt: &impl Abort,
-    alloc: Global,
-    row: &Row,
-    whole: &[u8],
-    room: usize,
-) -> Result<(), Fail> {
-    let mut files = folder_of(alloc, row.files)?;
-    let mut messages = MemorySink::new(alloc);
-    let mut story = Narrow::new(alloc, 100, room);
-    let ended = run(alloc, &mut files, &mut messages, &mut story)?;
-    assert_written(rt, messages.bytes(), row.lines.as_bytes());
-    let count = room.min(whole.len());
-    assert_written(rt, story.whole.bytes(), &whole[..count]);
-    let is_right = match &ended {
-        Ok(status) => *status == Status::Success && room >= whole.len(),
-        Err(Fault::Story(written)) => *written == room && room < whole.len(),
-        Err(_) => false,
-    };
-    assert_holds(rt, &room, is_right);
-    Ok(())
-}
-
-/// Returns whether a sink that takes `room` of `length` bytes is tried: it fails at the front of a write, which has 100
-/// bytes, or at its last byte.
-fn is_tried(room: usize, length: usize) -> bool {
-    length > 0 && (room % 100 == 0 || room % 100 == 99 || room == length)
-}
-
-/// Asserts the bytes that are written of the story of a source where each of the writes fails in turn, before its first
-/// byte and before its last.
-fn write_each_part(rt: &impl Abort, alloc: Global, row: &Row) -> Result<(), Fail> {
-    let whole = story_of(alloc, row)?;
-    for room in 0..=whole.bytes().len() {
-        if is_tried(room, whole.bytes().len()) {
-            write_in_part(rt, alloc, row, whole.bytes(), room)?;
-        }
+        fail_each(&rt, rt.alloc(), row, Turn::Message)?;
     }
     Ok(())
 }
@@ -174,7 +123,127 @@ fn write_each_part(rt: &impl Abort, alloc: Global, row: &Row) -> Result<(), Fail
 #[test]
 fn each_write_of_the_story_fails_in_turn(rt: HostRuntime) -> Result<(), Fail> {
     for row in &ROWS {
-        write_each_part(&rt, rt.alloc(), row)?;
+        fail_each(&rt, rt.alloc(), row, Turn::Story)?;
     }
+    Ok(())
+}
+
+/// Has a call fail behind each number of calls under `count`, which all come before the first message.
+fn fail_early(rt: &impl Abort, alloc: Global, trial: &Trial<'_>, count: usize) -> Result<(), Fail> {
+    for calls in 0..count {
+        let trial = Trial {
+            devices: Devices {
+                calls,
+                ..trial.devices
+            },
+            outcome: Outcome::Unread("t.inf"),
+            lines: "",
+            ..*trial
+        };
+        play(rt, alloc, &trial)?;
+    }
+    Ok(())
+}
+
+/// Has a call fail behind each number of calls, for a source with a long head and for one with a short head. The first is opened, its
+/// 10,071 bytes come in eleven reads, and its end is read. The semicolon of the other one's message comes behind 57 bytes, one byte a read.
+fn fail_in_heads(rt: &impl Abort, alloc: Global) -> Result<(), Fail> {
+    let long = joined(alloc, &LONG)?;
+    let files = [("t.inf", long.as_slice())];
+    let whole = Trial {
+        devices: Devices {
+            read: 1000,
+            calls: 13,
+            ..ALL
+        },
+        ..Trial::new(&files, "d\nErrors: 0, warnings: 0\n")
+    };
+    play(rt, alloc, &whole)?;
+    fail_early(rt, alloc, &whole, 12)?;
+    let unread = Trial {
+        devices: Devices {
+            read: 1000,
+            calls: 12,
+            ..ALL
+        },
+        outcome: Outcome::Unread("t.inf"),
+        ..Trial::new(&files, "d\n")
+    };
+    play(rt, alloc, &unread)?;
+    let short = Trial {
+        devices: Devices { read: 1, ..ALL },
+        ..Trial::new(&SHORT, "")
+    };
+    fail_early(rt, alloc, &short, 59)
+}
+
+/// A source with a short head.
+static SHORT: [(&str, &[u8]); 1] = [("t.inf", HEADED)];
+
+/// The pieces of a source with more spaces than a window has bytes before each of two words of its head.
+static LONG: [Piece<'static>; 5] = [
+    (b"!% -D", 1),
+    (b" ", 5000),
+    (b"-w\n!%", 1),
+    (b" ", 5000),
+    (
+        b"$MAX_CODE=999\n[ Main x; ]; #Ifdef DEBUG; Message \"d\"; #Endif;",
+        1,
+    ),
+];
+
+#[test]
+fn a_failed_read_is_not_the_end_of_a_head(rt: HostRuntime) -> Result<(), Fail> {
+    fail_in_heads(&rt, rt.alloc())
+}
+
+/// The files of a folder, and the number of openings and reads, of one byte each, behind which one fails; the file that is named then, and
+/// the messages before it.
+static UNREAD: [(&[(&str, &[u8])], usize, &str, &str); 2] = [
+    // Messages are written as they are found.
+    (
+        &[("t.inf", b"Message \"a\"; Message \"b\"; Mess")],
+        31,
+        "t.inf",
+        "a\nb\n",
+    ),
+    // A file that cannot be opened is named.
+    (
+        &[
+            ("t.inf", b"Message \"a\"; Include \"c.h\"; Message \"b\";"),
+            ("c.h", b""),
+        ],
+        28,
+        "c.h",
+        "a\n",
+    ),
+];
+
+/// A source without a byte.
+static EMPTY: [(&str, &[u8]); 1] = [("t.inf", b"")];
+
+#[test]
+fn failures_are_told(rt: HostRuntime) -> Result<(), Fail> {
+    for (files, calls, name, lines) in &UNREAD {
+        let unread = Trial {
+            devices: Devices {
+                read: 1,
+                calls: *calls,
+                ..ALL
+            },
+            outcome: Outcome::Unread(*name),
+            ..Trial::new(*files, *lines)
+        };
+        play(&rt, rt.alloc(), &unread)?;
+    }
+    let untold = Trial {
+        devices: Devices {
+            messages: (4096, 10),
+            ..ALL
+        },
+        outcome: Outcome::Untold,
+        ..Trial::new(&EMPTY, "t.inf(1): ")
+    };
+    play(&rt, rt.alloc(), &untold)?;
     Ok(())
 }

@@ -2,15 +2,11 @@
 #![tactic(auto)]
 
 #[cfg(test)]
-mod compile;
-#[cfg(test)]
 mod conditionals;
 #[cfg(test)]
 mod fault_rows;
 #[cfg(test)]
 mod faults;
-#[cfg(test)]
-mod heads;
 #[cfg(test)]
 mod including;
 #[cfg(test)]
@@ -18,4 +14,8 @@ mod reading;
 #[cfg(test)]
 mod replacing;
 #[cfg(test)]
-mod running;
+mod sources;
+#[cfg(test)]
+mod stories;
+#[cfg(test)]
+mod trials;

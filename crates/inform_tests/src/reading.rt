@@ -1,29 +1,9 @@
 //! The reading of a source: through a window, to its end or to a fatal error, whatever number of bytes a read gives.
-use crate::compile::{GREETING, NO_ERRORS, greet, read_source};
-use crate::running::{assert_holds, fail_to_read, read, read_by_words};
-use inform_trials::devices::Slow;
+use crate::trials::{ALL, Devices, Trial, play};
+use inform_trials::devices::{Piece, joined};
 use std::alloc::Global;
 use std::process::Abort;
 use std::test::Fail;
-
-/// Compiles the source that a reader gives, and asserts all messages.
-fn read_from(
-    rt: &impl Abort,
-    alloc: Global,
-    files: &mut Slow<'_>,
-    lines: &str,
-) -> Result<(), Fail> {
-    read(rt, alloc, files, lines)?;
-    assert_holds(rt, &lines, !files.is_open);
-    Ok(())
-}
-
-/// Compiles the greeting that a reader gives, and asserts its messages and its story.
-fn greet_from(rt: &impl Abort, alloc: Global, files: &mut Slow<'_>) -> Result<(), Fail> {
-    greet(rt, alloc, files)?;
-    assert_holds(rt, &NO_ERRORS, !files.is_open);
-    Ok(())
-}
 
 /// Numbers of bytes that a read gives at most, in turn.
 static READS: [usize; 6] = [1, 2, 3, 7, 4096, usize::MAX];
@@ -35,36 +15,14 @@ const BAD: &[u8] = b"[ Main;\r\nprint ;\r\n];\n\r7000;";
 const BAD_LINES: &str =
     "t.inf(2): Error: Syntax error at \";\"\nt.inf(5): Error: Syntax error at \"7000\"\nErrors: 2, warnings: 0 (no output)\n";
 
-/// Compiles the greeting where a read gives at most `most` bytes, and asserts that all its bytes are read.
-fn greet_in_parts(rt: &impl Abort, alloc: Global, most: usize) -> Result<(), Fail> {
-    let mut files = Slow::new(alloc, GREETING, most);
-    greet_from(rt, alloc, &mut files)?;
-    assert_holds(rt, &most, files.count == GREETING.len());
-    Ok(())
-}
+/// A source with a head of three lines, whose ends are of three kinds, and a comment that ends it.
+pub const HEADED: &[u8] = b"!% -w x\r\n!%\t-D -Q\r!%$MAX_SYMBOLS=1\n! -s\n!% -s\nMessage \"a\";\n\
+    [ Main x; ];#Ifdef DEBUG; Constant K; #Endif;";
 
-#[test]
-fn what_is_read_does_not_depend_on_the_bytes_of_a_read(rt: HostRuntime) -> Result<(), Fail> {
-    for most in READS {
-        greet_in_parts(&rt, rt.alloc(), most)?;
-        read_from(
-            &rt,
-            rt.alloc(),
-            &mut Slow::new(rt.alloc(), BAD, most),
-            BAD_LINES,
-        )?;
-    }
-    Ok(())
-}
+/// The messages of the source with a head.
+const HEADED_LINES: &str = "a\nt.inf(7): Fatal error: MAX_SYMBOLS is exceeded\n";
 
-/// Returns a hundred lines with an error each, before many spaces.
-fn hundred_errors(alloc: Global) -> Result<Vec<u8>, Fail> {
-    let mut source = b"5;\n".as_slice().repeat(alloc, 100)?;
-    source.extend_from_slice(b" ".as_slice().repeat(alloc, 1_000_000)?.as_slice())?;
-    Ok(source)
-}
-
-/// Returns the messages about the hundred errors.
+/// Returns the messages about a hundred lines with an error each.
 fn hundred_messages(alloc: Global) -> Result<String, Fail> {
     let mut lines = String::new(alloc);
     for line in 1..=100u32 {
@@ -75,161 +33,130 @@ fn hundred_messages(alloc: Global) -> Result<String, Fail> {
     Ok(lines)
 }
 
-/// Compiles the hundred lines where a read gives at most `most` bytes, and asserts that the spaces are not read.
-fn read_little(
+/// Compiles sources, of which the last one is that of the hundred lines, where a read gives at most `most` bytes.
+fn read_in_parts(
     rt: &impl Abort,
     alloc: Global,
-    source: &[u8],
+    most: usize,
+    hundred: &[u8],
+    lines: &str,
+) -> Result<(), Fail> {
+    let rows = [
+        (BAD, BAD_LINES, (0, usize::MAX)),
+        (HEADED, HEADED_LINES, (0, usize::MAX)),
+        // The last number ends behind 298 bytes, as the byte behind it shows.
+        (hundred, lines, (299, 298 + most.min(4096))),
+    ];
+    for (source, lines, given) in rows {
+        let files = [("t.inf", source)];
+        let trial = Trial {
+            devices: Devices { read: most, ..ALL },
+            given,
+            ..Trial::new(&files, lines)
+        };
+        play(rt, alloc, &trial)?;
+    }
+    Ok(())
+}
+
+/// Checks sources and their heads, and that little is read behind a fatal error: a hundred lines come before many spaces.
+#[test]
+fn what_is_read_does_not_depend_on_the_bytes_of_a_read(rt: HostRuntime) -> Result<(), Fail> {
+    let source = joined(rt.alloc(), &[(b"5;\n", 100), (b" ", 1_000_000)])?;
+    let lines = hundred_messages(rt.alloc())?;
+    for most in READS {
+        read_in_parts(&rt, rt.alloc(), most, source.as_slice(), lines.as_str())?;
+    }
+    Ok(())
+}
+
+/// The words of the command, and the pieces of a source; its messages, and the most bytes that are given of it.
+type Row = (
+    &'static [&'static str],
+    &'static [Piece<'static>],
+    &'static str,
+    usize,
+);
+
+/// Sources with words before their name, and sources of which one piece comes often.
+static ROWS: [Row; 6] = [
+    // Warnings are not told where a word says so.
+    (
+        &["-w", "t.inf"],
+        &[(b"[ Main x; ]; Message warning \"a\"; Message \"b\";", 1)],
+        "b\nErrors: 0, warnings: 0\n",
+        usize::MAX,
+    ),
+    (
+        &["-w~w", "t.inf"],
+        &[(b"[ Main x; ]; Message warning \"a\"; Message \"b\";", 1)],
+        "t.inf(1): Warning: Local \"x\" is unused\nt.inf(1): Warning: a\nb\nErrors: 0, warnings: 2\n",
+        usize::MAX,
+    ),
+    // No more than the window is read behind the statement that passes the limit, since the code of a statement is counted when it ends.
+    (
+        &["$MAX_CODE=64", "t.inf"],
+        &[(b"[ Main;", 1), (b"new_line;", 100_000), (b" ];", 1)],
+        "t.inf(1): Fatal error: MAX_CODE is exceeded\n",
+        8192,
+    ),
+    // A line end over the edge of the window is one.
+    (
+        &["t.inf"],
+        &[(b" ", 4095), (b"\r\n5;", 1)],
+        "t.inf(2): Error: Syntax error at \"5\"\nt.inf(1): Error: No routine \"Main\"\nErrors: 2, warnings: 0 (no output)\n",
+        usize::MAX,
+    ),
+    // A text has at most 4,000 bytes.
+    (
+        &["t.inf"],
+        &[(b"[ Main;\nprint \"", 1), (b"a", 4000), (b"\";\n]; ,;", 1)],
+        "t.inf(3): Error: Syntax error at \",\"\nErrors: 1, warnings: 0 (no output)\n",
+        usize::MAX,
+    ),
+    (
+        &["t.inf"],
+        &[(b"[ Main;\nprint \"", 1), (b"a", 4001), (b"\";\n]; ,;", 1)],
+        "t.inf(2): Fatal error: MAX_QTEXT_SIZE is exceeded\n",
+        usize::MAX,
+    ),
+];
+
+/// Compiles the source of some pieces, and asserts its messages, and that at most `most` bytes are given.
+fn read_pieces(
+    rt: &impl Abort,
+    alloc: Global,
+    words: &'static [&'static str],
+    pieces: &[Piece<'_>],
     lines: &str,
     most: usize,
 ) -> Result<(), Fail> {
-    let mut files = Slow::new(alloc, source, most);
-    read_from(rt, alloc, &mut files, lines)?;
-    // The last number ends behind 298 bytes, as the byte behind it shows.
-    let is_little = files.count > 298 && files.count <= 298 + most.min(4096);
-    assert_holds(rt, &most, is_little);
+    let source = joined(alloc, pieces)?;
+    let files = [("t.inf", source.as_slice())];
+    let trial = Trial {
+        words,
+        given: (0, most),
+        ..Trial::new(&files, lines)
+    };
+    play(rt, alloc, &trial)?;
     Ok(())
 }
 
+/// Checks the rows, and a word of 14 bytes in a head at the edge of the window, which sets a limit that the first objects alone pass: some
+/// of it, all or nothing of it, and its line end are behind the edge.
 #[test]
-fn little_is_read_behind_a_fatal_error(rt: HostRuntime) -> Result<(), Fail> {
-    let source = hundred_errors(rt.alloc())?;
-    let lines = hundred_messages(rt.alloc())?;
-    for most in READS {
-        read_little(&rt, rt.alloc(), source.as_slice(), lines.as_str(), most)?;
+fn sources_of_pieces_are_read(rt: HostRuntime) -> Result<(), Fail> {
+    for (words, pieces, lines, most) in &ROWS {
+        read_pieces(&rt, rt.alloc(), *words, *pieces, *lines, *most)?;
     }
-    Ok(())
-}
-
-/// Returns a routine of a hundred thousand statements.
-fn long_routine(alloc: Global) -> Result<Vec<u8>, Fail> {
-    let mut source = b"[ Main;".as_slice().repeat(alloc, 1)?;
-    source.extend_from_slice(b"new_line;".as_slice().repeat(alloc, 100_000)?.as_slice())?;
-    source.extend_from_slice(b" ];")?;
-    Ok(source)
-}
-
-/// Checks that no more than the window is read behind the statement that passes the limit, since the code of a statement is
-/// counted when it ends.
-#[test]
-fn little_is_read_behind_the_limit_of_code(rt: HostRuntime) -> Result<(), Fail> {
-    let source = long_routine(rt.alloc())?;
-    let mut files = Slow::new(rt.alloc(), source.as_slice(), usize::MAX);
-    let full = "t.inf(1): Fatal error: MAX_CODE is exceeded\n";
-    read_by_words(
-        &rt,
-        rt.alloc(),
-        &["$MAX_CODE=64", "t.inf"],
-        &mut files,
-        full,
-    )?;
-    assert_holds(&rt, &full, files.count <= 8192);
-    Ok(())
-}
-
-#[test]
-fn nothing_is_read_behind_the_end(rt: HostRuntime) -> Result<(), Fail> {
-    let mut files = Slow::resumed(rt.alloc(), GREETING, b",");
-    greet_from(&rt, rt.alloc(), &mut files)
-}
-
-/// Asserts that a source is reported as not read, that nothing was written and that the source was closed.
-fn assert_unread(rt: &impl Abort, alloc: Global, files: &mut Slow<'_>) -> Result<(), Fail> {
-    fail_to_read(rt, alloc, files, "t.inf", "")?;
-    assert_holds(rt, &"t.inf", !files.is_open);
-    Ok(())
-}
-
-/// Asserts that the greeting is reported as not read where the read behind `reads` others fails.
-fn fail_behind(rt: &impl Abort, alloc: Global, reads: usize) -> Result<(), Fail> {
-    assert_unread(rt, alloc, &mut Slow::failing(alloc, GREETING, reads))
-}
-
-/// Asserts that the greeting is reported as not read whichever of its reads fails.
-fn fail_at_each(rt: &impl Abort, alloc: Global) -> Result<(), Fail> {
-    for reads in 0..=GREETING.len() {
-        fail_behind(rt, alloc, reads)?;
-    }
-    Ok(())
-}
-
-/// Checks each read of a source: each byte has a read of its own, and the end one more.
-#[test]
-fn a_failed_read_is_not_the_end_of_a_source(rt: HostRuntime) -> Result<(), Fail> {
-    assert_unread(&rt, rt.alloc(), &mut Slow::shut(rt.alloc()))?;
-    assert_unread(&rt, rt.alloc(), &mut Slow::failing(rt.alloc(), b"", 0))?;
-    fail_at_each(&rt, rt.alloc())?;
-    let mut files = Slow::failing(rt.alloc(), GREETING, GREETING.len() + 1);
-    read_from(&rt, rt.alloc(), &mut files, NO_ERRORS)
-}
-
-#[test]
-fn a_line_end_over_the_edge_of_the_window_is_one(rt: HostRuntime) -> Result<(), Fail> {
-    let mut source = b" ".as_slice().repeat(rt.alloc(), 4095)?;
-    source.extend_from_slice(b"\r\n5;")?;
-    let lines =
-        "t.inf(2): Error: Syntax error at \"5\"\nt.inf(1): Error: No routine \"Main\"\nErrors: 2, warnings: 0 (no output)\n";
-    read_source(&rt, rt.alloc(), source.as_slice(), lines)
-}
-
-/// Returns a routine that prints a text of `count` bytes at its second line.
-fn printing(alloc: Global, count: usize) -> Result<Vec<u8>, Fail> {
-    let mut source = Vec::from_slice(alloc, b"[ Main;\nprint \"")?;
-    source.extend_from_slice(b"a".as_slice().repeat(alloc, count)?.as_slice())?;
-    source.extend_from_slice(b"\";\n]; ,;")?;
-    Ok(source)
-}
-
-/// Compiles a routine that prints a text of `count` bytes, and asserts its messages.
-fn read_printing(rt: &impl Abort, alloc: Global, count: usize, lines: &str) -> Result<(), Fail> {
-    let source = printing(alloc, count)?;
-    read_source(rt, alloc, source.as_slice(), lines)
-}
-
-#[test]
-fn a_text_has_at_most_4000_bytes(rt: HostRuntime) -> Result<(), Fail> {
-    let lines = "t.inf(3): Error: Syntax error at \",\"\nErrors: 1, warnings: 0 (no output)\n";
-    read_printing(&rt, rt.alloc(), 4000, lines)?;
-    let lines = "t.inf(2): Fatal error: MAX_QTEXT_SIZE is exceeded\n";
-    read_printing(&rt, rt.alloc(), 4001, lines)
-}
-
-#[test]
-fn a_source_that_is_cut_in_a_text(rt: HostRuntime) -> Result<(), Fail> {
-    let lines = "t.inf(1): Error: Unclosed or empty quote\nErrors: 1, warnings: 0 (no output)\n";
-    read_source(&rt, rt.alloc(), b"[ Main; print \"hel", lines)
-}
-
-/// Sources whose first token is a bad one, with the message about it.
-static TOLD: [(&[u8], &str); 14] = [
-    (b"5;", "Syntax error at \"5\""),
-    (b"$fF;", "Syntax error at \"$fF\""),
-    (b"$$101;", "Syntax error at \"$$101\""),
-    (b"Name;", "Syntax error at \"Name\""),
-    (b"'a';", "Syntax error at \"'a'\""),
-    (b"'ab//p';", "Syntax error at \"'ab//p'\""),
-    (b"\"text\";", "Syntax error at text"),
-    (b"~~=;", "Syntax error at \"~~\""),
-    (b"-->;", "Syntax error at \"-->\""),
-    (b"65536;", "Number out of range"),
-    (b"'';", "Unclosed or empty quote"),
-    (b"\x00;", "Illegal character"),
-    (b"abcdefghijklmnopqrstuvwxyz0123456;", "Name longer than 32"),
-    (b"\"@{x\";", "Unknown escape"),
-];
-
-/// Compiles a source whose first token is a bad one, and asserts the message about it.
-fn tell(rt: &impl Abort, alloc: Global, source: &[u8], told: &str) -> Result<(), Fail> {
-    let lines = format!(in alloc;
-        "t.inf(1): Error: {told}\nt.inf(1): Error: No routine \"Main\"\nErrors: 2, warnings: 0 (no output)\n"
-    )?;
-    read_source(rt, alloc, source, lines.as_str())
-}
-
-#[test]
-fn a_bad_token_is_told(rt: HostRuntime) -> Result<(), Fail> {
-    for (source, told) in &TOLD {
-        tell(&rt, rt.alloc(), *source, *told)?;
+    let full = "t.inf(1): Fatal error: MAX_OBJECTS is exceeded\n";
+    for count in 4078..=4095 {
+        let pieces: [Piece<'static>; 3] = [
+            (b"!%", 1),
+            (b" ", count),
+            (b"$MAX_OBJECTS=3\r\n[ Main; ];", 1),
+        ];
+        read_pieces(&rt, rt.alloc(), &["t.inf"], &pieces, full, usize::MAX)?;
     }
     Ok(())
 }

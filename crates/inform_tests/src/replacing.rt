@@ -1,12 +1,8 @@
-//! Routines that are replaced, and warnings that are left out.
-use crate::running::{read_by_words, read_folders};
-use inform_trials::devices::folder_of;
-use std::alloc::Global;
-use std::process::Abort;
-use std::test::Fail;
+//! Routines that are replaced.
+use crate::trials::Folder;
 
-/// Files of a folder, with all messages of `t.inf` among them.
-static FOLDERS: [(&[(&str, &[u8])], &str); 9] = [
+/// The rows of replaced routines.
+pub static FOLDERS: [Folder; 9] = [
     // A routine of a file that is marked gives nothing: no name, no error, no warning.
     (
         &[
@@ -82,37 +78,3 @@ static FOLDERS: [(&[(&str, &[u8])], &str); 9] = [
         "l.h(1): Error: \"R\" was declared at l.h(1)\nErrors: 1, warnings: 0 (no output)\n",
     ),
 ];
-
-#[test]
-fn routines_are_replaced(rt: HostRuntime) -> Result<(), Fail> {
-    read_folders(&rt, rt.alloc(), &FOLDERS)
-}
-
-/// A source with two warnings.
-static WARNED: [(&str, &[u8]); 1] = [(
-    "t.inf",
-    b"[ Main x; ]; Message warning \"a\"; Message \"b\";",
-)];
-
-/// The words before the name of the source with two warnings, and its messages then.
-static WORDS: [(&str, &str); 2] = [
-    ("-w", "b\nErrors: 0, warnings: 0\n"),
-    (
-        "-w~w",
-        "t.inf(1): Warning: Local \"x\" is unused\nt.inf(1): Warning: a\nb\nErrors: 0, warnings: 2\n",
-    ),
-];
-
-/// Compiles the source with `word` before its name, and asserts its messages.
-fn read_warned(rt: &impl Abort, alloc: Global, word: &str, lines: &str) -> Result<(), Fail> {
-    let mut files = folder_of(alloc, &WARNED)?;
-    read_by_words(rt, alloc, &[word, "t.inf"], &mut files, lines)
-}
-
-#[test]
-fn warnings_are_not_told_where_a_word_says_so(rt: HostRuntime) -> Result<(), Fail> {
-    for (word, lines) in &WORDS {
-        read_warned(&rt, rt.alloc(), *word, *lines)?;
-    }
-    Ok(())
-}

@@ -187,7 +187,6 @@ returns-in-Err-Absent-clause-begins g c = λ honest.
     let old = g.M.Sink.taken c.args.messages.now in
     let new = g.M.Sink.taken c.written.new.messages in
     let ending = c.in_ok-no_file-in-Err-Absent.field-0 in
-    let there = ap (λ f. Err f) c.in-Err-Absent.field-0-is in
     let is : (seen ending).messages ≡ (missing name).messages =
     ap (λ (e : Outcome). e.messages) c.in_ok-no_file-in-Err-Absent.ensures
     ∙ ap (λ (n : List ℕ). (missing n).messages) c.as_bytes.ensures.value in

@@ -1,4 +1,4 @@
-use Rattle.std.proofs.Common.{◌≡◌, ◌≤◌, ℕ, List, [], length, unwrap_or, sym, ap, subst}
+use Rattle.std.proofs.Common.{◌≤◌, ℕ, List, [], length, unwrap_or, sym, ap, subst}
 use Rattle.inf_session.proofs.Supplying.{text_few}
 use Rattle.inf_session.proofs.veneer.text_of.Goals as goal
 

@@ -38,33 +38,37 @@ loop-was_read-smaller g c =
     left_less c.loop-was_read.was_read c.in_ok-was_read.was_read c.loop-was_read.self.passed c.read_veneer.new.self.passed
     c.loop-was_read-test.true c.in_ok-was_read.ensures.behind
 
-pub returns-clause-supplied : goal.returns-clause-supplied
-returns-clause-supplied g c =
+pub returns : goal.returns
+returns g c =
     let inv = c.loop-was_read.invariant in
     record {
-      made = λ sources start now. leads_all g.B.Bounds.most (chosen c.args.self.now.setup)
-          (λ told. none_is (next_of c.loop-was_read.self) (inv.none c.loop-was_read-test.false)) (inv.led sources start now);
-      broken = λ sources start now. tt;
-      files = inv.files;
-      setup = inv.setup;
-      cause = tt;
-      wrote = inv.wrote;
+      supplied = record {
+        made = λ sources start now. leads_all g.B.Bounds.most (chosen c.args.self.now.setup)
+            (λ told. none_is (next_of c.loop-was_read.self) (inv.none c.loop-was_read-test.false)) (inv.led sources start now);
+        broken = λ sources start now. tt;
+        files = inv.files;
+        setup = inv.setup;
+        cause = tt;
+        wrote = inv.wrote;
+      };
     }
 
-pub returns-in_err-was_read-clause-supplied : goal.returns-in_err-was_read-clause-supplied
-returns-in_err-was_read-clause-supplied g c =
+pub returns-in_err-was_read : goal.returns-in_err-was_read
+returns-in_err-was_read g c =
     let m = g.M.Sink in
     let inv = c.loop-was_read.invariant in
     let took = c.in_err-was_read.ensures.supplied in
-    supplies_as (told_fault c.from_residual.result _ c.from_residual.ensures.1) (record {
-      made = λ sources start now. tt;
-      broken = λ sources start now.
-          leads_cut g.B.Bounds.most (chosen c.args.self.now.setup) (inv.led sources start now)
-          (subst (λ (o : Choices). CutsShort (next_supplied g.B.Bounds.most o) (state sources start now c.loop-was_read.self)
-          (m.taken c.loop-was_read.messages) (m.taken c.read_veneer.new.messages)) (ap chosen inv.setup) (took.broken sources start now));
-      files = took.files ∙ inv.files;
-      setup = took.setup ∙ inv.setup;
-      cause = caused_more _ (λ name why. why) (λ r. rose_earlier (m.failures c.args.messages.now) (m.failures c.loop-was_read.messages)
-          (m.failures c.read_veneer.new.messages) inv.wrote.appends.failures r) took.cause;
-      wrote = wrote_then inv.wrote took.wrote;
-    })
+    record {
+      supplied = supplies_as (told_fault c.from_residual.result _ c.from_residual.ensures.1) (record {
+        made = λ sources start now. tt;
+        broken = λ sources start now.
+            leads_cut g.B.Bounds.most (chosen c.args.self.now.setup) (inv.led sources start now)
+            (subst (λ (o : Choices). CutsShort (next_supplied g.B.Bounds.most o) (state sources start now c.loop-was_read.self)
+            (m.taken c.loop-was_read.messages) (m.taken c.read_veneer.new.messages)) (ap chosen inv.setup) (took.broken sources start now));
+        files = took.files ∙ inv.files;
+        setup = took.setup ∙ inv.setup;
+        cause = caused_more {P = λ name. ⊥} c.before.in_err-was_read.field-0.0 (λ name why. why) (λ r. rose_earlier (m.failures c.args.messages.now) (m.failures c.loop-was_read.messages)
+            (m.failures c.read_veneer.new.messages) inv.wrote.appends.failures r) took.cause;
+        wrote = wrote_then inv.wrote took.wrote;
+      });
+    }

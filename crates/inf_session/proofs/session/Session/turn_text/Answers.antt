@@ -3,8 +3,8 @@ use Rattle.std.proofs.lemmas.Result.{on_ok_weaker}
 use Rattle.inf_lexer.specs.Names.{Nest}
 use Rattle.inf_characters.specs.declared.characters.CharSet.{CharSet}
 use Rattle.inf_unit.specs.{Atoms.is_short, Messages.FileNames}
-use Rattle.inf_compilation.specs.{Context.Context, Works.work}
-use Rattle.inf_reader.specs.{Handing.is_between, Standing.reading, Standing.standing}
+use Rattle.inf_compilation.specs.Context.{Context}
+use Rattle.inf_reader.specs.{Handing.is_between, Standing.standing}
 use Rattle.inf_sources.specs.Quoted.{is_quoted_kind}
 use Rattle.inf_session.specs.{Choices.chosen, Session.State, Session.context_of, Standing.state, Taking.Taken, Taking.token_at}
 use Rattle.inf_session.specs.{Veneer.in_text}
