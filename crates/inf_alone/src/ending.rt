@@ -22,7 +22,7 @@ use inf_unit::unit::order;
 use std::alloc::AllocError;
 
 /// The use that is made of an expression.
-#[derive(Clone, Copy, Debug, PartialEq, Eq)]
+#[derive(Clone, Copy)]
 pub enum Use {
     /// The value is used for nothing: the expression is computed for its effect.
     Nothing,
@@ -35,7 +35,7 @@ pub enum Use {
 }
 
 /// The result of an expression.
-#[derive(Clone, Copy, Debug, PartialEq, Eq)]
+#[derive(Clone, Copy)]
 pub enum Ended {
     /// Wrong by its least finding: the expression has no effect.
     Wrong(Finding),
@@ -44,7 +44,7 @@ pub enum Ended {
 }
 
 /// The result of a constant.
-#[derive(Clone, Copy, Debug, PartialEq, Eq)]
+#[derive(Clone, Copy)]
 pub enum Told {
     /// Wrong by its least finding: the constant has no effect.
     Wrong(Finding),

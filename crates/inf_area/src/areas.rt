@@ -87,7 +87,7 @@ pub trait Area {
 }
 
 /// An area whose bytes are in one piece.
-#[derive(Debug, Drop)]
+#[derive(Drop)]
 pub struct FlatArea {
     content: Vec<u8>,
 }

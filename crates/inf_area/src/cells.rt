@@ -9,7 +9,7 @@ use std::alloc::{AllocError, Global};
 use std::marker::Model;
 
 /// A part of a table.
-#[derive(Clone, Copy, Debug, PartialEq, Eq)]
+#[derive(Clone, Copy)]
 pub enum Cell {
     Byte(u8),
     /// Two bytes that are known when the story is laid out.
@@ -17,7 +17,7 @@ pub enum Cell {
 }
 
 /// The reason why a table was not written.
-#[derive(Clone, Copy, Debug, PartialEq, Eq)]
+#[derive(Clone, Copy)]
 pub enum WriteFault {
     /// There would be more fixups than there may be.
     Full,
@@ -28,7 +28,7 @@ pub enum WriteFault {
 /// The cells of a table so far.
 ///
 /// Each call adds cells at the end, or refuses where no memory was left.
-#[derive(Debug, Drop)]
+#[derive(Drop)]
 pub struct Cells {
     list: Vec<Cell>,
 }

@@ -7,7 +7,7 @@ use std::alloc::{AllocError, AllocFailed, Global};
 use std::marker::Model;
 
 /// Two zero bytes of an area that the number of a target replaces.
-#[derive(Clone, Copy, Debug, PartialEq, Eq)]
+#[derive(Clone, Copy)]
 pub struct Fixup {
     pub area: AreaName,
     /// The place of the first byte in that area.
@@ -16,7 +16,7 @@ pub struct Fixup {
 }
 
 /// The reason for which a fixup was not added.
-#[derive(Clone, Copy, Debug, PartialEq, Eq)]
+#[derive(Clone, Copy, Debug)]
 pub enum AddFault {
     /// The list has as many fixups as it may have.
     Full,
@@ -41,7 +41,7 @@ impl<T: Drop> From<AllocFailed<T>> for AddFault {
 }
 
 /// The fixups of all areas, in the order in which they were added, and the greatest number of them.
-#[derive(Debug, Drop)]
+#[derive(Drop)]
 pub struct Refs {
     fixups: Vec<Fixup>,
     limit: usize,

@@ -14,7 +14,7 @@ const PAGE_LEN: usize = 1024;
 type Page = Box<[u8; PAGE_LEN]>;
 
 /// An area whose bytes are in pages of 1,024 bytes, which are never moved when the area grows.
-#[derive(Debug, Drop)]
+#[derive(Drop)]
 pub struct PagedArea {
     alloc: Global,
     // The pages, each with all its bytes; pages behind the bytes of the area are kept for those that are appended next.

@@ -4,7 +4,7 @@ ghost use Rattle.inf_area.specs.Scales.{gap, most_bytes, scale_number, version};
 
 /// A number that packed addresses are multiplied by (Z-Machine Standard 1.1, section 1.2.3), which belongs to a version
 /// of the Z-machine.
-#[derive(Clone, Copy, Debug, PartialEq, Eq)]
+#[derive(Clone, Copy)]
 pub enum Scale {
     /// Four, of version 5.
     Four,

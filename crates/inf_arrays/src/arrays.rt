@@ -17,7 +17,7 @@ use std::alloc::{AllocError, AllocFailed, Global};
 use std::marker::{Model, PhantomData};
 
 /// The reason why an array was not opened, or has no more entries.
-#[derive(Clone, Copy, Debug, PartialEq, Eq)]
+#[derive(Clone, Copy, Debug)]
 pub enum ArrayFault {
     /// A `string` array would have more than 255 entries.
     TooMany,
@@ -40,7 +40,7 @@ impl From<AllocError> for ArrayFault {
 }
 
 /// The entries that one item of a source adds to its array.
-#[derive(Clone, Copy, Debug)]
+#[derive(Clone, Copy)]
 pub enum Entries<'a> {
     One(Value),
     /// The number of zeros that a number alone asks for.
@@ -50,7 +50,7 @@ pub enum Entries<'a> {
 }
 
 /// An array, with the entries read so far.
-#[derive(Debug, Drop)]
+#[derive(Drop)]
 struct Array {
     kind: ArrayKind,
     entries: Vec<Value>,

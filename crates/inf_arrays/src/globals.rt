@@ -20,7 +20,7 @@ const MOST: usize = 235;
 const ALL: usize = 240;
 
 /// The reason why a variable was not added.
-#[derive(Clone, Copy, Debug, PartialEq, Eq)]
+#[derive(Clone, Copy, Debug)]
 pub enum GlobalFault {
     /// There are 235 variables already.
     TooMany,
@@ -37,7 +37,7 @@ impl<T: Drop> From<AllocFailed<T>> for GlobalFault {
 }
 
 /// The first values of the variables that were declared, in order.
-#[derive(Debug, Drop)]
+#[derive(Drop)]
 pub struct Globals {
     alloc: Global,
     values: Vec<Value>,

@@ -6,7 +6,7 @@ use crate::arrays::ArrayFault;
 use inf_area::Value;
 
 /// The kind of an array: the size of an entry, and whether the count of entries precedes them.
-#[derive(Clone, Copy, Debug, PartialEq, Eq)]
+#[derive(Clone, Copy)]
 pub enum ArrayKind {
     /// `->`: a byte each.
     Bytes,

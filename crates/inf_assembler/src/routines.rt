@@ -14,7 +14,7 @@ use std::alloc::{AllocError, AllocFailed, Global};
 use std::marker::Model;
 
 /// The value that a routine returns where control runs past its last item.
-#[derive(Clone, Copy, Debug, PartialEq, Eq)]
+#[derive(Clone, Copy)]
 pub enum RoutineKind {
     /// A routine that stands alone, which returns true.
     Plain,
@@ -23,7 +23,7 @@ pub enum RoutineKind {
 }
 
 /// The place and size of a closed routine.
-#[derive(Clone, Copy, Debug, PartialEq, Eq)]
+#[derive(Clone, Copy, Debug)]
 pub struct Closed {
     /// The place of the routine in the area.
     pub start: usize,
@@ -34,7 +34,7 @@ pub struct Closed {
 }
 
 /// Limits of a routine.
-#[derive(Clone, Copy, Debug, PartialEq, Eq)]
+#[derive(Clone, Copy)]
 pub struct Limits {
     /// The most labels, branches and jumps of the routine.
     pub labels: usize,
@@ -43,7 +43,7 @@ pub struct Limits {
 }
 
 /// A limit that an addition would pass.
-#[derive(Clone, Copy, Debug, PartialEq, Eq)]
+#[derive(Clone, Copy, Debug)]
 pub enum Limit {
     /// The limit of the labels, branches and jumps of a routine.
     Labels,
@@ -54,7 +54,7 @@ pub enum Limit {
 }
 
 /// The reason why a routine was not opened or did not grow.
-#[derive(Clone, Copy, Debug, PartialEq, Eq)]
+#[derive(Clone, Copy, Debug)]
 pub enum GrowFault {
     /// The routine would pass a limit.
     Full(Limit),
@@ -85,7 +85,7 @@ impl<T: Drop> From<AllocFailed<T>> for GrowFault {
 }
 
 /// The reason why a routine was not closed.
-#[derive(Clone, Copy, Debug, PartialEq, Eq)]
+#[derive(Clone, Copy, Debug)]
 pub enum CloseFault {
     /// A label that a branch or jump goes to, and that no place is marked with, the first by use.
     LabelMissing(Label),
@@ -111,7 +111,7 @@ impl From<AllocError> for CloseFault {
 }
 
 /// A moment of an open routine, to which `Routine::back` leads.
-#[derive(Clone, Copy, Debug)]
+#[derive(Clone, Copy)]
 pub struct Mark {
     len: usize,
     kept: usize,
@@ -148,7 +148,7 @@ impl Model for Mark {
 /// of numbers that are known later.
 ///
 /// Each of its calls is given the area that `open` was given, which nothing else changes in between.
-#[derive(Debug, Drop)]
+#[derive(Drop)]
 pub struct Routine {
     alloc: Global,
     start: usize,

@@ -13,7 +13,7 @@ pub struct Cx<'a, B: Bounds> {
 }
 
 /// The use that is made of the value of an expression.
-#[derive(Clone, Copy, Debug, PartialEq, Eq)]
+#[derive(Clone, Copy)]
 pub enum Want {
     /// The answer is used for nothing.
     Nothing,
@@ -24,14 +24,14 @@ pub enum Want {
 }
 
 /// The branch of a condition: to `label`, where its truth is `sense`.
-#[derive(Clone, Copy, Debug, PartialEq, Eq)]
+#[derive(Clone, Copy)]
 pub struct Branch {
     pub sense: bool,
     pub label: Label,
 }
 
 /// The place of a routine in the code, the number of its bytes with those that fill it up, and the number of its references.
-#[derive(Clone, Copy, Debug, PartialEq, Eq)]
+#[derive(Clone, Copy, Debug)]
 pub struct Closed {
     pub start: usize,
     pub len: usize,

@@ -7,7 +7,7 @@ use inf_report::report::ReportFault;
 use std::alloc::AllocError;
 
 /// The reason why a text has no effect. What a message says of it was written.
-#[derive(Debug, Drop)]
+#[derive(Drop)]
 pub enum UnitFault {
     /// A token was bad, or the source has ended.
     Syntax,

@@ -7,7 +7,7 @@ use std::marker::Model;
 
 /// A character code of the Z-machine that a text may have: 13 (the new line), 32 to 126 (ASCII) and
 /// 155 to 223 (Z-Machine Standard 1.1, section 3.8). Contracts see the number.
-#[derive(Clone, Copy, Debug, PartialEq, Eq)]
+#[derive(Clone, Copy, PartialEq, Eq)]
 pub struct Zscii {
     code: u8,
 }
@@ -55,7 +55,7 @@ impl Zscii {
 }
 
 /// The way in which the bytes of a source are read as characters.
-#[derive(Clone, Copy, Debug, PartialEq, Eq)]
+#[derive(Clone, Copy)]
 pub enum CharSet {
     /// ASCII: a byte of 128 or more is no character.
     Ascii,

@@ -13,7 +13,7 @@ use std::alloc::{AllocError, AllocFailed, Global};
 use thiserror::Error;
 
 /// The use of a text, which decides what its marks mean.
-#[derive(Clone, Copy, Debug, PartialEq, Eq)]
+#[derive(Clone, Copy)]
 pub enum Mode {
     /// A text that is printed: `~` is a quotation mark, `^` a new line, and `@nn` a string variable.
     Text,

@@ -6,7 +6,7 @@ use std::alloc::{AllocError, Global};
 use std::marker::Model;
 
 /// One item of a text.
-#[derive(Clone, Copy, Debug, PartialEq, Eq)]
+#[derive(Clone, Copy, PartialEq, Eq)]
 pub enum TextItem {
     /// A character.
     Character(Zscii),
@@ -34,7 +34,7 @@ impl TextItem {
 }
 
 /// A text that was read.
-#[derive(Debug, Drop)]
+#[derive(Drop)]
 pub struct Text {
     items: Vec<TextItem>,
 }

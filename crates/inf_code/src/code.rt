@@ -44,7 +44,7 @@ const ROUTINE_BOUNDS: Limits = Limits {
 const MOST_REFERENCES: usize = usize::MAX - FIRST_REFERENCES;
 
 /// Limits of the code of a story.
-#[derive(Clone, Copy, Debug, PartialEq, Eq)]
+#[derive(Clone, Copy)]
 pub struct CodeLimits {
     /// The most labels, branches and jumps of a routine. Their number is checked where a unit is finished.
     pub labels: usize,

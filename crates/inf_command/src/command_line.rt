@@ -36,7 +36,7 @@ pub enum WordFault {
 
 /// The choices of a command's words: the word for the source, the word for the story where there is one, the settings
 /// that are named, those of letters, and the text behind the sign of a word `+..`.
-#[derive(Debug, Drop)]
+#[derive(Drop)]
 pub struct Options<'a> {
     pub(crate) source: &'a str,
     pub(crate) story: Option<&'a str>,

@@ -20,7 +20,7 @@ const MOST_PATH_BYTES: usize = 254;
 
 /// The choices of the words of the head of a source, for matters of which those of the command are silent: those of
 /// letters, the settings that are named, and the text behind the sign of a word `+..`.
-#[derive(Debug, Drop)]
+#[derive(Drop)]
 pub struct Head {
     pub(crate) letters: Letters,
     pub(crate) settings: Spoken,

@@ -7,7 +7,7 @@ use inf_settings::setting::{SETTINGS, Setting};
 use inf_settings::settings::{SetFault, Settings};
 
 /// The number of each setting that words named, which is that of the last word that names it.
-#[derive(Debug, Drop)]
+#[derive(Drop)]
 pub struct Spoken {
     quoted_text: Option<u32>,
     expression_nodes: Option<u32>,

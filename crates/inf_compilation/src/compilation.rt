@@ -148,7 +148,7 @@ pub struct Extending {
 }
 
 /// The entries of the header of a story that directives tell (Z-Machine Standard 1.1, section 11.1).
-#[derive(Clone, Copy, Debug, PartialEq, Eq)]
+#[derive(Clone, Copy)]
 pub struct Header {
     pub release: u16,
     /// The digits of the serial number; none, where that is the date.

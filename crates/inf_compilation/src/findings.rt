@@ -36,7 +36,7 @@ pub fn blame_of<'t>(tokens: &'t UnitTokens, finding: Finding) -> Diagnostic<'t>
 }
 
 /// A name that is declared already.
-#[derive(Debug, Drop)]
+#[derive(Drop)]
 pub struct Again {
     pub name: Name,
     /// The place of its first declaration, which a name of the language does not have.
@@ -44,7 +44,7 @@ pub struct Again {
 }
 
 /// Findings about a unit. Of all that was found the least is told, by the order of its token and then by the number of its error.
-#[derive(Debug, Drop)]
+#[derive(Drop)]
 pub struct Findings {
     pub least: Option<Finding>,
     /// The limit that is passed, where the least finding is that there are too many.

@@ -71,7 +71,7 @@ impl Steps {
 }
 
 /// The parts of a condition that are up to date.
-#[derive(Clone, Copy, Debug, PartialEq, Eq)]
+#[derive(Clone, Copy)]
 pub enum Held {
     Both,
     /// The tokens alone, as in a condition that is passed over: its unit would take much more memory.
@@ -111,7 +111,7 @@ impl Drop for Condition {
 
 /// The extent of a condition's expression so far: the number of its tokens, the place of the first that is too many, and the number of
 /// brackets that are open.
-#[derive(Clone, Copy, Debug, PartialEq, Eq)]
+#[derive(Clone, Copy)]
 pub struct Extent {
     pub tokens: usize,
     pub long: Option<Place>,
@@ -119,7 +119,7 @@ pub struct Extent {
 }
 
 /// The result of a condition.
-#[derive(Clone, Copy, Debug, PartialEq, Eq)]
+#[derive(Clone, Copy)]
 pub struct Verdict {
     /// Tells whether the condition is true, which it is not with an error.
     pub is_true: bool,

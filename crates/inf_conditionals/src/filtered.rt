@@ -3,7 +3,7 @@
 use inf_scanner::Place;
 
 /// The way in which a token is handed on to the machine of the grammar.
-#[derive(Clone, Copy, Debug, PartialEq, Eq)]
+#[derive(Clone, Copy)]
 pub enum Forwarded {
     /// The token is kept: the grammar gets it.
     Kept,
@@ -14,7 +14,7 @@ pub enum Forwarded {
 }
 
 /// A `#` that was held back until the token behind it was known.
-#[derive(Clone, Copy, Debug, PartialEq, Eq)]
+#[derive(Clone, Copy)]
 pub struct Sign {
     pub place: Place,
     pub handed: Forwarded,
@@ -23,7 +23,7 @@ pub struct Sign {
 /// The result of a token: the ways in which the `#` before it and then the token itself are handed on; the place where
 /// a directive begins that ends or turns a conditional which is not there; and the place where a conditional directive
 /// begins that has ended.
-#[derive(Clone, Copy, Debug, PartialEq, Eq)]
+#[derive(Clone, Copy)]
 pub struct Filtered {
     pub sign: Option<Sign>,
     pub token: Option<Forwarded>,
@@ -32,7 +32,7 @@ pub struct Filtered {
 }
 
 /// The place in the reading at which a token comes.
-#[derive(Clone, Copy, Debug, PartialEq, Eq)]
+#[derive(Clone, Copy)]
 pub struct Site {
     /// Tells whether the token is between the pieces of a source.
     pub is_between: bool,

@@ -1,7 +1,7 @@
 //! Sides that are left out.
 
 /// A side that is left out.
-#[derive(Clone, Copy, Debug, PartialEq, Eq)]
+#[derive(Clone, Copy)]
 pub struct LeftOut {
     /// Tells whether its conditional was opened inside the directive at hand.
     pub is_inner: bool,

@@ -13,7 +13,7 @@ use std::marker::Model;
 const MOST_BYTES: usize = 255;
 
 /// The kind of a token in four bytes.
-#[derive(Clone, Copy, Debug, PartialEq, Eq)]
+#[derive(Clone, Copy)]
 pub enum ShortKind {
     Name,
     Number(u16),

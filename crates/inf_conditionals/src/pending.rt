@@ -5,7 +5,7 @@ ghost use Rattle.inf_conditionals.specs.Judging.{has_acted};
 use inf_scanner::Place;
 
 /// The effect of a conditional directive when its semicolon is read.
-#[derive(Clone, Copy, Debug, PartialEq, Eq)]
+#[derive(Clone, Copy)]
 pub enum Effect {
     /// A conditional is opened, whose first side is kept if the argument is true.
     Opens(bool),
@@ -18,7 +18,7 @@ pub enum Effect {
 }
 
 /// The next thing for which a directive that is being read waits.
-#[derive(Clone, Copy, Debug, PartialEq, Eq)]
+#[derive(Clone, Copy)]
 pub enum Awaits {
     /// The word of the directive, behind a `#` at the front of a piece.
     Word,
@@ -40,7 +40,7 @@ impl Awaits {
 }
 
 /// A conditional directive that is being read, from its place on, or a `#` at the front of a piece.
-#[derive(Clone, Copy, Debug, PartialEq, Eq)]
+#[derive(Clone, Copy)]
 pub struct Pending {
     pub place: Place,
     /// Tells whether the directive is inside another one.

@@ -7,7 +7,7 @@ use crate::pending::{Awaits, Effect};
 use inf_syntax::Keyword;
 
 /// The word that begins a conditional directive.
-#[derive(Clone, Copy, Debug, PartialEq, Eq)]
+#[derive(Clone, Copy)]
 pub enum ConditionalWord {
     Ifdef,
     Ifndef,

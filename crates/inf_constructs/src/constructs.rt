@@ -20,7 +20,7 @@ use std::alloc::{AllocError, Global};
 use std::marker::Model;
 
 /// The objects that a loop over objects goes over.
-#[derive(Clone, Copy, Debug, PartialEq, Eq)]
+#[derive(Clone, Copy)]
 pub enum Over {
     /// The loop goes over no objects: its unit is not whole, or had an error.
     Nothing,
@@ -31,7 +31,7 @@ pub enum Over {
 }
 
 /// The open case of a `switch`.
-#[derive(Clone, Copy, Debug, PartialEq, Eq)]
+#[derive(Clone, Copy)]
 pub enum Case {
     Nothing,
     /// A case of values, with the label of the next case.
@@ -40,7 +40,7 @@ pub enum Case {
 }
 
 /// The kind of a statement that holds others.
-#[derive(Clone, Copy, Debug, PartialEq, Eq)]
+#[derive(Clone, Copy)]
 pub enum Kind {
     If,
     /// An `if` behind its `else`.
@@ -57,7 +57,7 @@ pub enum Kind {
 }
 
 /// An open statement.
-#[derive(Debug, Drop)]
+#[derive(Drop)]
 pub struct Construct {
     pub kind: Kind,
     /// The label where the body of a loop begins.

@@ -10,7 +10,7 @@ use std::alloc::{AllocError, Global};
 use std::marker::Model;
 
 /// A label of a name, with the spelling of the name.
-#[derive(Debug, Drop)]
+#[derive(Drop)]
 pub struct Entry {
     /// The name as it is spelled at its first place in the source.
     spelling: ArrayVec<u8, MOST_NAME_BYTES>,

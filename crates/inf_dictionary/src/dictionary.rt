@@ -14,7 +14,7 @@ use std::collections::BTreeMap;
 use std::marker::{Model, PhantomData};
 
 /// The reason why a use of a word was not added.
-#[derive(Clone, Copy, Debug, PartialEq, Eq)]
+#[derive(Clone, Copy, Debug)]
 pub enum AddFault {
     /// The word is one of another verb.
     OtherVerb,

@@ -3,7 +3,7 @@ ghost use Rattle.std.specs.Prelude.{◌≡◌};
 ghost use Rattle.inf_dictionary.specs.Words.{flags_of, is_of_other_verb, joined, verb_byte, verb_in};
 
 /// The use of a word in a source.
-#[derive(Clone, Copy, Debug, PartialEq, Eq)]
+#[derive(Clone, Copy)]
 pub enum WordUse {
     /// A word of the verb that has this number.
     Verb(u8),
@@ -15,7 +15,7 @@ pub enum WordUse {
 }
 
 /// The facts that all uses of a word say of it.
-#[derive(Clone, Copy, Debug, PartialEq, Eq)]
+#[derive(Clone, Copy, PartialEq, Eq)]
 pub struct Word {
     /// 1 for a verb, 2 for one that is meta, 4 for a plural, 8 for a preposition, 128 for any other use (Inform Technical Manual,
     /// section 8.5).

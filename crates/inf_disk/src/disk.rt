@@ -104,7 +104,7 @@ impl Trouble {
 }
 
 /// A file as the system tells it from others: by the number of its device, and by its own number there.
-#[derive(Clone, Copy, Debug)]
+#[derive(Clone, Copy)]
 struct FileNumbers {
     device: u64,
     file: u64,
@@ -138,7 +138,7 @@ pub struct StoryPlace<'r> {
 }
 
 /// The outcome of a look at the file that has the story's name.
-#[derive(Clone, Copy, Debug)]
+#[derive(Clone, Copy)]
 enum Look {
     /// No look told whether there is one.
     Unknown,

@@ -14,7 +14,7 @@ use inf_settings::bounds::Bounds;
 use std::alloc::Global;
 
 /// The way in which a compilation ended.
-#[derive(Clone, Copy, Debug, PartialEq, Eq)]
+#[derive(Clone, Copy)]
 pub enum Status {
     /// The compilation ended with no error, and with a story.
     Success,

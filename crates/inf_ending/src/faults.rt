@@ -44,7 +44,7 @@ impl From<ReportFault> for Fault {
 }
 
 /// The reason why a turn of the reading was given up. Each turn answers this in place of a `Fault`, which is many times as large.
-#[derive(Clone, Copy, Debug, PartialEq, Eq)]
+#[derive(Clone, Copy)]
 pub enum Halt {
     /// No memory was left.
     Memory,

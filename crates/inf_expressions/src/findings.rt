@@ -4,7 +4,7 @@ ghost use Rattle.inf_expressions.specs.Findings.{error_number, is_before, least,
 ghost use Rattle.inf_expressions.specs.Findings.{too_many_arguments, wrong_kind};
 
 /// An error of a unit. The errors stand in the order of the table of messages.
-#[derive(Clone, Copy, Debug, PartialEq, Eq)]
+#[derive(Clone, Copy)]
 pub enum UnitError {
     /// A code in a text is out of range.
     NumberOutOfRange,
@@ -71,7 +71,7 @@ impl UnitError {
 }
 
 /// An error of a unit, at a token.
-#[derive(Clone, Copy, Debug, PartialEq, Eq)]
+#[derive(Clone, Copy)]
 pub struct Finding {
     /// The order of the token at which the error is reported.
     pub order: u32,

@@ -7,7 +7,7 @@ use crate::operators::{Binary, Function, Operand, Operation, PropertyPart};
 use crate::origins::Origin;
 
 /// The kind of a tree.
-#[derive(Clone, Copy, Debug, PartialEq, Eq)]
+#[derive(Clone, Copy)]
 pub(crate) enum Kind {
     Number(u16),
     /// A constant that is known only when the story is laid out.
@@ -24,7 +24,7 @@ pub(crate) enum Kind {
 }
 
 /// The kind of a tree, and the tokens with which its text begins.
-#[derive(Clone, Copy, Debug, PartialEq, Eq)]
+#[derive(Clone, Copy)]
 pub(crate) struct Seen {
     pub kind: Kind,
     pub origin: Origin,

@@ -3,7 +3,7 @@
 use inf_area::Target;
 
 /// The operand that is a leaf of an expression.
-#[derive(Clone, Copy, Debug, PartialEq, Eq)]
+#[derive(Clone, Copy, PartialEq, Eq)]
 pub enum Operand {
     /// A number that is known at once.
     Known(u16),
@@ -18,7 +18,7 @@ pub enum Operand {
 }
 
 /// The functions of the system (Designer's Manual, fourth edition, sections 1.14 and 3.4).
-#[derive(Clone, Copy, Debug, PartialEq, Eq)]
+#[derive(Clone, Copy, PartialEq, Eq)]
 pub enum Function {
     Child,
     Sibling,
@@ -29,7 +29,7 @@ pub enum Function {
 }
 
 /// An operator of two values that one instruction computes.
-#[derive(Clone, Copy, Debug, PartialEq, Eq)]
+#[derive(Clone, Copy)]
 pub enum Operation {
     Add,
     Subtract,
@@ -45,7 +45,7 @@ pub enum Operation {
 }
 
 /// The part of a property that an operator gives.
-#[derive(Clone, Copy, Debug, PartialEq, Eq)]
+#[derive(Clone, Copy)]
 pub enum PropertyPart {
     Value,
     Address,
@@ -53,7 +53,7 @@ pub enum PropertyPart {
 }
 
 /// A test of a value against a list of others, which holds where it holds of one of them.
-#[derive(Clone, Copy, Debug, PartialEq, Eq)]
+#[derive(Clone, Copy)]
 pub enum Test {
     Equal,
     Less,
@@ -67,14 +67,14 @@ pub enum Test {
 }
 
 /// A step by one, up or down.
-#[derive(Clone, Copy, Debug, PartialEq, Eq)]
+#[derive(Clone, Copy)]
 pub enum Direction {
     Up,
     Down,
 }
 
 /// An operator of one value that one instruction computes.
-#[derive(Clone, Copy, Debug, PartialEq, Eq)]
+#[derive(Clone, Copy)]
 pub enum Single {
     /// The operand with all bits turned.
     Complement,
@@ -83,14 +83,14 @@ pub enum Single {
 }
 
 /// An object that one instruction finds, with a branch where there is one.
-#[derive(Clone, Copy, Debug, PartialEq, Eq)]
+#[derive(Clone, Copy)]
 pub enum Relative {
     Child,
     Sibling,
 }
 
 /// An operator of one part.
-#[derive(Clone, Copy, Debug, PartialEq, Eq)]
+#[derive(Clone, Copy)]
 pub enum Unary {
     Negate,
     /// The truth that the operand is 0.
@@ -110,7 +110,7 @@ pub enum Unary {
 }
 
 /// An operator of two parts.
-#[derive(Clone, Copy, Debug, PartialEq, Eq)]
+#[derive(Clone, Copy)]
 pub enum Binary {
     Operation(Operation),
     Property(PropertyPart),

@@ -5,7 +5,7 @@ ghost use Rattle.inf_expressions.specs.Origins.{bracketed, bracketed_lead, follo
 use crate::operators::Operand;
 
 /// The first part of the text of an expression, its own brackets counted in: a leaf, or an operator in front with its part.
-#[derive(Clone, Copy, Debug, PartialEq, Eq)]
+#[derive(Clone, Copy)]
 pub struct Lead {
     /// The order of the first token of this part.
     pub first: u32,
@@ -16,7 +16,7 @@ pub struct Lead {
 }
 
 /// The tokens at which errors of an expression are reported.
-#[derive(Clone, Copy, Debug, PartialEq, Eq)]
+#[derive(Clone, Copy)]
 pub struct Origin {
     /// The order of the first token, brackets counted in.
     pub first: u32,

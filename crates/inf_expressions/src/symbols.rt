@@ -4,7 +4,7 @@ use crate::operators::{Binary, Unary};
 
 /// A symbol that an action of the grammar gathers of an expression: a leaf, or an operator behind its parts. Tokens are named by
 /// their orders among those of their piece.
-#[derive(Clone, Copy, Debug, PartialEq, Eq)]
+#[derive(Clone, Copy)]
 pub enum Symbol {
     /// A leaf: its first token, the token at which its errors are reported (behind the sign of `#x` and `##X`, else the first
     /// token), and its place among the operands of its unit.

@@ -14,7 +14,7 @@ use crate::trees::{Gathered, seen};
 use std::alloc::{AllocError, Global};
 
 /// The kind that a unit wants each of its expressions to be.
-#[derive(Clone, Copy, Debug, PartialEq, Eq)]
+#[derive(Clone, Copy)]
 pub enum Wanted {
     Value,
     /// A constant: a known number, or one that is known only when the story is laid out.

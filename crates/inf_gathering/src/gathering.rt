@@ -12,7 +12,7 @@ use std::marker::Model;
 
 /// A leaf of an expression as it was read. A name, a text, an action and a system constant are given by the place of their token
 /// among those of the unit.
-#[derive(Clone, Copy, Debug, PartialEq, Eq)]
+#[derive(Clone, Copy)]
 pub enum Leaf {
     Name(usize),
     /// A name that is an operand of an assembly line by itself: the name of the stack is told apart there.
@@ -42,7 +42,7 @@ pub struct Gathering {
 }
 
 /// The extent of a gathering: the numbers of its leaves, of its symbols and of its whole expressions.
-#[derive(Clone, Copy, Debug, PartialEq, Eq)]
+#[derive(Clone, Copy)]
 pub struct Extent {
     pub leaves: usize,
     pub symbols: usize,

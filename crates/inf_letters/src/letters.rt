@@ -7,7 +7,7 @@ use inf_area::Scale;
 use inf_characters::CharSet;
 
 /// The choices of letters: on each matter the last letter's, and none where no letter spoke of it.
-#[derive(Clone, Copy, Debug, PartialEq, Eq)]
+#[derive(Clone, Copy)]
 pub struct Letters {
     /// The character set of the sources, by `C0` and `C1`.
     pub set: Option<CharSet>,
@@ -26,7 +26,7 @@ pub struct Letters {
 }
 
 /// The choice of one letter, or of two that belong together.
-#[derive(Clone, Copy, Debug)]
+#[derive(Clone, Copy)]
 pub(crate) enum Said {
     Set(CharSet),
     Scale(Scale),

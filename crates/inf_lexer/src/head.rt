@@ -11,7 +11,7 @@ use inf_scanner::Lines;
 const MOST_WORD_BYTES: usize = 256;
 
 /// The place in a head up to which bytes were taken.
-#[derive(Clone, Copy, Debug, PartialEq, Eq)]
+#[derive(Clone, Copy)]
 pub enum HeadPlace {
     /// The next byte is the first of a line.
     Line,

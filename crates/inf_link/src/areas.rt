@@ -6,7 +6,7 @@ use inf_area::{Area, AreaName};
 
 /// A value for each area of a story, in the order of the areas in it: the area itself, its length, or the place where it
 /// begins.
-#[derive(Clone, Copy, Debug, Drop, PartialEq, Eq)]
+#[derive(Clone, Copy, Drop)]
 pub struct Areas<T> {
     pub low_strings: T,
     pub abbreviations: T,

@@ -13,7 +13,7 @@ pub const HEADER_SIZE: usize = 64;
 const HEADER_REST: [u8; 34] = [0; 34];
 
 /// The parts of a header beside the places of areas, the length and the checksum.
-#[derive(Clone, Copy, Debug, PartialEq, Eq)]
+#[derive(Clone, Copy)]
 pub struct HeaderFields {
     pub release: u16,
     /// The digits of the serial number, as characters.

@@ -13,7 +13,7 @@ use std::alloc::{AllocError, Global};
 use std::marker::Model;
 
 /// Reasons why there is no story.
-#[derive(Clone, Copy, Debug, PartialEq, Eq)]
+#[derive(Clone, Copy, Debug)]
 pub enum LinkFault {
     /// Code would begin at an address over 65,534.
     ReadableTooLong,
@@ -33,7 +33,7 @@ impl From<AllocError> for LinkFault {
 }
 
 /// Numbers of bytes of a story and of its parts.
-#[derive(Clone, Copy, Debug, PartialEq, Eq)]
+#[derive(Clone, Copy)]
 pub struct Sizes {
     pub code: usize,
     pub strings: usize,
@@ -43,7 +43,7 @@ pub struct Sizes {
 }
 
 /// A finished story.
-#[derive(Debug, Drop)]
+#[derive(Drop)]
 pub struct Story {
     bytes: Vec<u8>,
     sizes: Sizes,
@@ -82,7 +82,7 @@ impl Story {
 
 /// The parts of a story: its areas, with two zeros at each fixup; the fixups of all areas, in any order; the table in which
 /// their targets are looked up; and the fields of its header.
-#[derive(Debug, Drop)]
+#[derive(Drop)]
 pub struct Link<A> {
     pub alloc: Global,
     pub areas: Areas<A>,

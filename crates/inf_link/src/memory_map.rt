@@ -12,7 +12,7 @@ use inf_area::Scale;
 const MOST_READABLE: u128 = 65_534;
 
 /// The places where areas begin and where the story ends, in bytes from its front.
-#[derive(Clone, Copy, Debug, PartialEq, Eq)]
+#[derive(Clone, Copy)]
 pub struct MemoryMap {
     pub bases: Areas<usize>,
     pub end: usize,

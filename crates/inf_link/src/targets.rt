@@ -14,7 +14,7 @@ const FIRST_WORD: u128 = 7;
 const WORD_SIZE: u128 = 9;
 
 /// The table in which the targets of a story are looked up. A number that is not found is 0.
-#[derive(Debug, Drop)]
+#[derive(Drop)]
 pub struct Targets {
     /// The value of each name of the source, by its number. This value is itself no name.
     pub names: Vec<Value>,

@@ -1,7 +1,7 @@
 //! The parts of the rows of a grammar.
 
 /// A part of a row, whose actions are of a type `A`.
-#[derive(Clone, Copy, Debug, PartialEq, Eq)]
+#[derive(Clone, Copy)]
 pub enum Symbol<A> {
     /// A token of a class, by the class's number.
     Token(u8),

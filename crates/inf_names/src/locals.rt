@@ -54,7 +54,7 @@ fn last_letter(name: &[u8]) -> u8
 }
 
 /// A local variable, as the header of its routine spells it.
-#[derive(Debug, Drop)]
+#[derive(Drop)]
 pub struct Local {
     pub name: Spelling,
     pub place: Place,
@@ -73,20 +73,20 @@ impl Default for Local {
 }
 
 /// The local variables of a routine, in order.
-#[derive(Debug, Drop)]
+#[derive(Drop)]
 pub struct Locals {
     pub list: ArrayVec<Local, MOST_LOCALS>,
 }
 
 /// A name that a header gives again, and its first place there.
-#[derive(Debug, Drop)]
+#[derive(Drop)]
 pub struct Repeated {
     pub name: Name,
     pub first: Place,
 }
 
 /// The local variables that a header names: the first 15 different ones, the first name that comes again, and whether there are more.
-#[derive(Debug, Drop)]
+#[derive(Drop)]
 pub struct Headed {
     pub locals: Locals,
     pub repeated: Option<Repeated>,

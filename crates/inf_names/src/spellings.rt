@@ -21,7 +21,7 @@ pub(crate) fn copy_of(spelling: &Spelling) -> Spelling
 }
 
 /// A name as a source spells it, and its place.
-#[derive(Debug, Drop)]
+#[derive(Drop)]
 pub struct Name {
     pub spelling: Spelling,
     pub place: Place,

@@ -17,7 +17,7 @@ use std::marker::{Model, PhantomData};
 pub const LONGEST_NAME: usize = 35;
 
 /// The finding of a look-up of a name. `P` is a place in a source.
-#[derive(Clone, Copy, Debug, PartialEq, Eq)]
+#[derive(Clone, Copy)]
 pub enum Found<P> {
     /// A name that the language has from the start.
     System(Meaning),
@@ -29,7 +29,7 @@ pub enum Found<P> {
 }
 
 /// The reason for which a name was not declared.
-#[derive(Clone, Copy, Debug, PartialEq, Eq)]
+#[derive(Clone, Copy)]
 pub enum DeclareFault<P> {
     /// The name was declared at this place; without a place, the language has it from the start.
     Present(Option<P>),
@@ -51,7 +51,7 @@ impl<P, T: Drop> From<AllocFailed<T>> for DeclareFault<P> {
 }
 
 /// The reason for which a name was not used.
-#[derive(Clone, Copy, Debug, PartialEq, Eq)]
+#[derive(Clone, Copy)]
 pub enum ReferFault {
     /// There are as many names as there may be.
     Full,
@@ -71,7 +71,7 @@ impl<T: Drop> From<AllocFailed<T>> for ReferFault {
 }
 
 /// A name's entry in the map of names.
-#[derive(Debug, Drop)]
+#[derive(Drop)]
 pub enum Entry<P> {
     /// The name was declared: as the one of this number, counted from 0, with this meaning and at this place.
     Declared(usize, Meaning, P),

@@ -7,7 +7,7 @@ ghost use Rattle.inf_names.specs.SystemNames.{system_meaning, system_names};
 use crate::meanings::{Function, Meaning};
 
 /// A name that the language has from the start (Inform Designer's Manual, fourth edition).
-#[derive(Clone, Copy, Debug, PartialEq, Eq)]
+#[derive(Clone, Copy)]
 pub enum SystemName {
     True,
     False,

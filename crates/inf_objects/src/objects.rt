@@ -11,7 +11,7 @@ use std::marker::Model;
 const MOST_CLASSES: usize = 32;
 
 /// The short name of an object, as a text that is packed (Z-Machine Standard 1.1, section 3).
-#[derive(Debug, Drop)]
+#[derive(Drop)]
 pub struct ShortName {
     bytes: Vec<u8>,
 }
@@ -51,7 +51,7 @@ impl ShortName {
 }
 
 /// The numbers of the classes of an object, in order, at most 32.
-#[derive(Debug, Drop)]
+#[derive(Drop)]
 pub struct ClassNumbers {
     list: Vec<usize>,
 }
@@ -130,7 +130,7 @@ impl ClassNumbers {
 }
 
 /// An object or a class of the source, once its body has ended.
-#[derive(Debug, Drop)]
+#[derive(Drop)]
 pub struct Object {
     /// The kind of thing that it is: an object or a class.
     pub owner: Owner,

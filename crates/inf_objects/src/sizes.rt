@@ -12,7 +12,7 @@ use crate::tables::{has_individual, is_individual};
 use inf_properties::{Owner, Property};
 
 /// The part of an area that something needs.
-#[derive(Clone, Copy, Debug, PartialEq, Eq)]
+#[derive(Clone, Copy)]
 pub struct Part {
     pub bytes: usize,
     /// The number of values in these bytes that are known only later.
@@ -20,7 +20,7 @@ pub struct Part {
 }
 
 /// The parts that an object needs of the areas of property tables and of individual tables.
-#[derive(Clone, Copy, Debug, PartialEq, Eq)]
+#[derive(Clone, Copy)]
 pub struct Measure {
     pub table: Part,
     pub individual_table: Part,

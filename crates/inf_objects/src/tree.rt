@@ -5,7 +5,7 @@ ghost use Rattle.inf_objects.specs.Tree.{AreWithin, linked, links_of};
 use std::alloc::{AllocError, Global};
 
 /// The next object with the same parent, and the first object below this one; 0 where there is none.
-#[derive(Clone, Copy, Debug, PartialEq, Eq)]
+#[derive(Clone, Copy)]
 pub struct Link {
     pub sibling: usize,
     pub child: usize,

@@ -4,7 +4,7 @@ use crate::instructions::{Branch, Label};
 use inf_area::Target;
 
 /// A part of a routine that is no plain byte.
-#[derive(Clone, Copy, Debug, PartialEq, Eq)]
+#[derive(Clone, Copy)]
 pub enum Special {
     /// A label that marks the place and takes no bytes.
     Marks(Label),
@@ -17,7 +17,7 @@ pub enum Special {
 }
 
 /// A special part with its place in the area.
-#[derive(Clone, Copy, Debug, PartialEq, Eq)]
+#[derive(Clone, Copy)]
 pub struct Kept {
     pub place: usize,
     pub what: Special,

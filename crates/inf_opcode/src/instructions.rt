@@ -11,13 +11,13 @@ pub const MOST_OPERANDS: usize = 8;
 
 /// A place of a routine, by a number that whoever writes the routine chooses. The numbers should be
 /// small: closing the routine takes memory for the greatest of those that are marked.
-#[derive(Clone, Copy, Debug, PartialEq, Eq)]
+#[derive(Clone, Copy, PartialEq, Eq)]
 pub struct Label {
     pub number: u32,
 }
 
 /// Where a branch goes (Z-Machine Standard 1.1, section 4.7.1).
-#[derive(Clone, Copy, Debug, PartialEq, Eq)]
+#[derive(Clone, Copy)]
 pub enum Destination {
     To(Label),
     ReturnFalse,
@@ -25,14 +25,14 @@ pub enum Destination {
 }
 
 /// A branch: whether it is taken where the test holds, and where it goes.
-#[derive(Clone, Copy, Debug, PartialEq, Eq)]
+#[derive(Clone, Copy)]
 pub struct Branch {
     pub sense: bool,
     pub target: Destination,
 }
 
 /// An operand (Z-Machine Standard 1.1, section 4.2).
-#[derive(Clone, Copy, Debug, PartialEq, Eq)]
+#[derive(Clone, Copy, PartialEq, Eq)]
 pub enum Operand {
     /// A constant of two bytes.
     Large(u16),
@@ -87,7 +87,7 @@ impl Operand {
 }
 
 /// An instruction: an opcode, its operands, and the parts behind them.
-#[derive(Clone, Copy, Debug)]
+#[derive(Clone, Copy)]
 pub struct Instruction<'a> {
     pub opcode: Opcode,
     /// The operands, eight at most.

@@ -4,7 +4,7 @@ ghost use Rattle.inf_opcode.specs.Opcodes.{row_of, is_encodable, plain_row, nami
 ghost use Rattle.inf_opcode.specs.Opcodes.{last};
 
 /// Class of an opcode by its count of operands; opcodes are numbered within their class (Z-Machine Standard 1.1, section 4.3).
-#[derive(Clone, Copy, Debug, PartialEq, Eq)]
+#[derive(Clone, Copy)]
 pub enum OperandCount {
     Zero,
     One,
@@ -16,7 +16,7 @@ pub enum OperandCount {
 }
 
 /// Row of the instruction set for an opcode (Z-Machine Standard 1.1, section 14).
-#[derive(Clone, Copy, Debug, PartialEq, Eq)]
+#[derive(Clone, Copy, Debug)]
 pub struct OpcodeRow {
     pub count: OperandCount,
     /// Number of the opcode among those of its class.
@@ -40,7 +40,7 @@ pub struct OpcodeRow {
 }
 
 /// An opcode by its name in the Z-Machine Standard 1.1, section 14.
-#[derive(Clone, Copy, Debug, PartialEq, Eq)]
+#[derive(Clone, Copy)]
 pub enum Opcode {
     Je,
     Jl,

@@ -295,7 +295,7 @@ pub fn sense_bit(sense: bool) -> u8
 }
 
 /// Counts of the bytes, labels and references that a part of a routine takes.
-#[derive(Clone, Copy, Debug, PartialEq, Eq)]
+#[derive(Clone, Copy)]
 pub struct Counts {
     /// Number of bytes.
     pub bytes: usize,

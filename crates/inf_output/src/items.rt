@@ -8,7 +8,7 @@ use std::alloc::{AllocError, Global};
 use std::marker::Model;
 
 /// An instruction, whose parts are those that the instruction set gives its opcode.
-#[derive(Debug, Drop)]
+#[derive(Drop)]
 pub struct KeptInstruction {
     opcode: Opcode,
     operands: ArrayVec<Operand, MOST_OPERANDS>,
@@ -42,7 +42,7 @@ impl Model for KeptInstruction {
 }
 
 /// Item of code.
-#[derive(Debug, Drop)]
+#[derive(Drop)]
 pub enum Item {
     Instruction(KeptInstruction),
     /// The place of a label.
@@ -50,7 +50,7 @@ pub enum Item {
 }
 
 /// Items in order.
-#[derive(Debug, Drop)]
+#[derive(Drop)]
 pub struct Items {
     alloc: Global,
     list: Vec<Item>,

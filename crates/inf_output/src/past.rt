@@ -10,7 +10,7 @@ use inf_settings::bounds::Bounds;
 use inf_settings::setting::Setting;
 
 /// Room left of each limit, once one was passed; none of those that were passed.
-#[derive(Clone, Copy, Debug, PartialEq, Eq)]
+#[derive(Clone, Copy)]
 pub struct Past {
     /// Tells whether there are more names than there may be.
     pub symbols: bool,

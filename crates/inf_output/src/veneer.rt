@@ -3,7 +3,7 @@ ghost use Rattle.std.specs.Prelude.{◌≡◌, ◌≤◌, length};
 ghost use Rattle.inf_output.specs.Veneer.{name_of};
 
 /// A routine that the code of an expression or of a statement calls by name. A source may declare the name itself.
-#[derive(Clone, Copy, Debug, PartialEq, Eq)]
+#[derive(Clone, Copy)]
 pub enum Veneer {
     /// Reads the value of a property of an object.
     ReadProperty,

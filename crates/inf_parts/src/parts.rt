@@ -29,7 +29,7 @@ use inf_unit::unit::order;
 use std::alloc::AllocError;
 
 /// A unit of a routine that has expressions.
-#[derive(Clone, Copy, Debug, PartialEq, Eq)]
+#[derive(Clone, Copy)]
 pub enum Part {
     Statement(Statement),
     /// The condition of an `if` or of a loop.

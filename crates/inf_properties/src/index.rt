@@ -11,7 +11,7 @@ use std::marker::Model;
 /// The places of an object's properties in their list, by the numbers of the properties.
 ///
 /// One index serves many objects: places that were noted for another object do no harm.
-#[derive(Debug, Drop)]
+#[derive(Drop)]
 pub struct PropertyIndex {
     places: Vec<usize>,
 }

@@ -13,7 +13,7 @@ use std::marker::Model;
 /// The properties of an object or a class: no two have the same number, and each has at most 32 values.
 ///
 /// No property has the number 2 or 3: the list of an object's classes and the address of its individual table are not among them.
-#[derive(Debug, Drop)]
+#[derive(Drop)]
 pub struct Properties {
     list: Vec<Property>,
 }

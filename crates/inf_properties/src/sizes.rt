@@ -6,7 +6,7 @@ use crate::values::Property;
 use inf_area::Value;
 
 /// The owner of a body's properties.
-#[derive(Clone, Copy, Debug, PartialEq, Eq)]
+#[derive(Clone, Copy)]
 pub enum Owner {
     Object,
     /// A class, which keeps its properties for the objects that take from it.
@@ -16,7 +16,7 @@ pub enum Owner {
 }
 
 /// The room that properties need in the tables of a story.
-#[derive(Clone, Copy, Debug, PartialEq, Eq)]
+#[derive(Clone, Copy)]
 pub struct Size {
     pub bytes: usize,
     /// Number of values in these tables that are known later.
@@ -26,7 +26,7 @@ pub struct Size {
 }
 
 /// The most bytes that there may be (`limit`), and the bytes of other objects among them (`others`).
-#[derive(Clone, Copy, Debug, PartialEq, Eq)]
+#[derive(Clone, Copy)]
 pub struct Room {
     pub others: usize,
     pub limit: u32,

@@ -6,7 +6,7 @@ use std::alloc::{AllocError, Global};
 use std::marker::Model;
 
 /// The values of a property, in order.
-#[derive(Debug, Drop)]
+#[derive(Drop)]
 pub struct Values {
     list: Vec<Value>,
 }
@@ -65,7 +65,7 @@ impl Values {
 }
 
 /// A property that an object or a class has, with its values there.
-#[derive(Debug, Drop)]
+#[derive(Drop)]
 pub struct Property {
     /// The property's number: 1 is `name`, 4 to 63 are declared, and individual properties number from 64.
     pub number: usize,

@@ -19,7 +19,7 @@ use inf_verb_lines::verbs::{extend_header, verb_header};
 use std::alloc::AllocError;
 
 /// A declaration by a directive with a header.
-#[derive(Clone, Copy, Debug, PartialEq, Eq)]
+#[derive(Clone, Copy)]
 pub enum Heading {
     Array,
     Class,

@@ -6,7 +6,7 @@ use inf_unit::kinds::{is_end, is_mark};
 use inf_unit::tokens::SourceToken;
 
 /// The way in which the next token of a source is read.
-#[derive(Clone, Copy, Debug, PartialEq, Eq)]
+#[derive(Clone, Copy)]
 pub enum Recovery {
     /// The token is read by the grammar.
     Reads,

@@ -8,7 +8,7 @@ use crate::wordings::Wording;
 use inf_settings::setting::Setting;
 
 /// The weight of a message.
-#[derive(Clone, Copy, Debug, PartialEq, Eq)]
+#[derive(Clone, Copy)]
 pub enum Kind {
     /// An error: no story is written.
     Error,
@@ -18,14 +18,14 @@ pub enum Kind {
 }
 
 /// A line of a file, by the name under which it was opened.
-#[derive(Clone, Copy, Debug)]
+#[derive(Clone, Copy)]
 pub struct Location<'a> {
     pub file: &'a [u8],
     pub line: u32,
 }
 
 /// A token as a message names it.
-#[derive(Clone, Copy, Debug)]
+#[derive(Clone, Copy)]
 pub enum Told<'a> {
     /// The token is shown by the bytes that the source has for it.
     Bytes(&'a [u8]),
@@ -38,7 +38,7 @@ pub enum Told<'a> {
 }
 
 /// A kind of things of which there is a fixed limit.
-#[derive(Clone, Copy, Debug, PartialEq, Eq)]
+#[derive(Clone, Copy)]
 pub enum FixedLimit {
     /// The locals of a routine.
     Locals,
@@ -57,7 +57,7 @@ pub enum FixedLimit {
 }
 
 /// A message. Names are as the source spells them at the message's place.
-#[derive(Clone, Copy, Debug)]
+#[derive(Clone, Copy)]
 pub enum Message<'a> {
     /// A token that fits nowhere.
     Syntax(Told<'a>),

@@ -11,7 +11,7 @@ use inf_devices::sinks::Sink;
 
 /// A text of the source: the bytes between the quotes. A message shows them as they are, but white space with a line
 /// end in it as one space.
-#[derive(Clone, Copy, Debug)]
+#[derive(Clone, Copy)]
 pub struct OwnWords<'a> {
     pub bytes: &'a [u8],
     /// The source's character set, which decides which bytes are white space.

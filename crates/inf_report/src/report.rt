@@ -21,7 +21,7 @@ const MOST_ERRORS: u32 = 100;
 ///
 /// Each call writes its line to a sink, and allocates nothing. It returns an error only where the sink failed in the
 /// call: then a part of the line may be out, and the counts are as they were.
-#[derive(Debug, Drop)]
+#[derive(Drop)]
 pub struct Report {
     errors: u32,
     warnings: u64,

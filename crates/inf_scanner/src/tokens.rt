@@ -4,7 +4,7 @@ ghost use Rattle.std.specs.Prelude.{◌≡◌};
 use inf_text::Zscii;
 
 /// A mark of the language.
-#[derive(Clone, Copy, Debug, PartialEq, Eq)]
+#[derive(Clone, Copy)]
 pub enum Mark {
     /// The mark `->`.
     Arrow,
@@ -89,7 +89,7 @@ pub enum Mark {
 }
 
 /// The fault of a bad token.
-#[derive(Clone, Copy, Debug, PartialEq, Eq)]
+#[derive(Clone, Copy)]
 pub enum BadToken {
     /// A byte that begins no token.
     Unfit,
@@ -112,7 +112,7 @@ pub enum BadToken {
 }
 
 /// A word in single quotes, as the dictionary has it.
-#[derive(Clone, Copy, Debug, PartialEq, Eq)]
+#[derive(Clone, Copy)]
 pub struct DictionaryWord {
     /// The nine Z-characters of the word (Z-Machine Standard 1.1, section 13.3).
     pub text: [u8; 6],
@@ -121,7 +121,7 @@ pub struct DictionaryWord {
 }
 
 /// The kind of a token, with its value.
-#[derive(Clone, Copy, Debug, PartialEq, Eq)]
+#[derive(Clone, Copy)]
 pub enum TokenKind {
     Name,
     Number(u16),
@@ -137,14 +137,14 @@ pub enum TokenKind {
 }
 
 /// The place where a token begins: the number of its file, and its line there, counted from 1.
-#[derive(Clone, Copy, Debug, PartialEq, Eq)]
+#[derive(Clone, Copy)]
 pub struct Place {
     pub file: u16,
     pub line: u32,
 }
 
 /// A token with its place.
-#[derive(Clone, Copy, Debug, PartialEq, Eq)]
+#[derive(Clone, Copy)]
 pub struct Token {
     pub kind: TokenKind,
     pub place: Place,

@@ -55,7 +55,7 @@ pub struct Session<'a, B: Bounds> {
 }
 
 /// The result of a step of the reading.
-#[derive(Clone, Copy, Debug, PartialEq, Eq)]
+#[derive(Clone, Copy)]
 pub enum Step {
     /// A part was read.
     More,

@@ -5,7 +5,7 @@ ghost use Rattle.inf_settings.specs.Settings.{name_of, named, place_of};
 use std::fmt;
 
 /// A setting, by the things that it limits.
-#[derive(Clone, Copy, Debug, PartialEq, Eq)]
+#[derive(Clone, Copy, Debug)]
 pub enum Setting {
     /// The bytes of one quoted token.
     QuotedText,

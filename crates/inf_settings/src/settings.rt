@@ -18,7 +18,7 @@ pub enum SetFault {
 }
 
 /// The numbers of all settings.
-#[derive(Debug, Drop)]
+#[derive(Drop)]
 pub struct Settings {
     quoted_text: Limit,
     expression_nodes: Limit,

@@ -3,7 +3,7 @@ ghost use Rattle.std.specs.Prelude.{◌≡◌, ◌<◌, IfSome, length, option_m
 ghost use Rattle.inf_settings.specs.{Assignments.told, Words.assignment_of, Words.capped, Words.decimal_of, Words.sign_in};
 
 /// A name and a number, which a word of a command assigns.
-#[derive(Clone, Copy, Debug, PartialEq, Eq)]
+#[derive(Clone, Copy)]
 pub struct Assignment<'a> {
     pub name: &'a [u8],
     /// The number, or 4,294,967,295 where it is greater.

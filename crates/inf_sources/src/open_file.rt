@@ -4,7 +4,7 @@ use inf_lexer::Lexer;
 use inf_scanner::Place;
 
 /// A conditional that is open.
-#[derive(Clone, Copy, Debug, PartialEq, Eq)]
+#[derive(Clone, Copy)]
 pub struct Conditional {
     /// The place where its directive begins.
     pub place: Place,

@@ -22,7 +22,7 @@ use std::marker::Model;
 use std::mem;
 
 /// The result of an inclusion.
-#[derive(Clone, Copy, Debug, PartialEq, Eq)]
+#[derive(Clone, Copy)]
 pub enum Included {
     /// A file was entered.
     Entered,

@@ -32,7 +32,7 @@ use std::alloc::{AllocError, Global};
 
 /// The ends of an assembly line: all in it that is no operand. Tokens are given by their places among those of the
 /// unit.
-#[derive(Clone, Copy, Debug, PartialEq, Eq)]
+#[derive(Clone, Copy)]
 pub struct Ends {
     /// The name of the variable in which the line stores.
     pub store: Option<usize>,

@@ -34,7 +34,7 @@ const ABBREVIATIONS: Target = Target::Place(AreaName::Abbreviations, 0);
 const TEMP: u8 = 255;
 
 /// A statement, known by its first token.
-#[derive(Clone, Copy, Debug, PartialEq, Eq)]
+#[derive(Clone, Copy)]
 pub enum Statement {
     /// A semicolon alone.
     Empty,

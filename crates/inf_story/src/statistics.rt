@@ -11,7 +11,7 @@ use std::alloc::AllocError;
 
 /// The counts of a source: its names; the words of its dictionary; its objects, with the first four; its verbs; its
 /// actions, but fake ones; and its routines, with the first one.
-#[derive(Clone, Copy, Debug, PartialEq, Eq)]
+#[derive(Clone, Copy)]
 pub struct Counts {
     pub symbols: usize,
     pub words: usize,
@@ -38,7 +38,7 @@ impl Counts {
 }
 
 /// The statistics of a story: the counts of its source, and the sizes in bytes of the story and its parts.
-#[derive(Clone, Copy, Debug, PartialEq, Eq)]
+#[derive(Clone, Copy)]
 pub struct Statistics {
     pub counts: Counts,
     pub sizes: Sizes,

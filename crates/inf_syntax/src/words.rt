@@ -2,7 +2,7 @@
 
 /// A word that the grammar knows.
 #[rattlefmt::skip]
-#[derive(Clone, Copy, Debug, PartialEq, Eq)]
+#[derive(Clone, Copy)]
 pub enum Keyword {
     Abbreviate, Additive, Alias, Array, Attribute, Break, Class, Constant, Continue, Default, Do, Else, End, Endif, Error, Extend,
     FakeAction, Fatalerror, First, For, Give, Global, Has, Hasnt, If, Ifdef, Iffalse, Ifndef, Ifnot, Iftrue, In, Include, Jump, Last,

@@ -3,7 +3,7 @@
 use inf_area::{AreaName, Value};
 
 /// The most objects and bytes that a world may have.
-#[derive(Clone, Copy, Debug, PartialEq, Eq)]
+#[derive(Clone, Copy)]
 pub struct Limits {
     /// Number of objects, the first four counted in.
     pub objects: u32,
@@ -12,7 +12,7 @@ pub struct Limits {
 }
 
 /// A property that was declared.
-#[derive(Clone, Copy, Debug, PartialEq, Eq)]
+#[derive(Clone, Copy)]
 pub struct DeclaredProperty {
     /// Whether the values of classes come behind an object's own.
     pub is_additive: bool,
@@ -21,7 +21,7 @@ pub struct DeclaredProperty {
 }
 
 /// The parent of an object, as its header names it.
-#[derive(Clone, Copy, Debug, PartialEq, Eq)]
+#[derive(Clone, Copy)]
 pub enum Parent {
     /// The object of a number; 0 is no parent.
     Object(usize),
@@ -45,7 +45,7 @@ impl Parent {
 }
 
 /// An area that a world becomes.
-#[derive(Clone, Copy, Debug, PartialEq, Eq)]
+#[derive(Clone, Copy)]
 pub enum WorldArea {
     /// The values of properties for objects that do not give them.
     PropertyDefaults,

@@ -17,7 +17,7 @@ pub(crate) const STACK: u8 = 0;
 pub(crate) const TEMP: u8 = 255;
 
 /// The goal of an assignment.
-#[derive(Clone, Copy, Debug, PartialEq, Eq)]
+#[derive(Clone, Copy)]
 pub(crate) enum Goal {
     Nowhere,
     Variable(u8),

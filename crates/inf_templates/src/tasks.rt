@@ -8,7 +8,7 @@ use std::alloc::{AllocError, Global};
 use std::marker::Model;
 
 /// An operand of an instruction.
-#[derive(Clone, Copy, Debug, PartialEq, Eq)]
+#[derive(Clone, Copy)]
 pub enum Argument {
     /// The tree at a place: where it is not simple it is worked out into the stack before.
     Of(usize),
@@ -17,7 +17,7 @@ pub enum Argument {
 }
 
 /// One to three trees as operands, by their places.
-#[derive(Clone, Copy, Debug, PartialEq, Eq)]
+#[derive(Clone, Copy)]
 pub enum Few {
     One(usize),
     Two(usize, usize),
@@ -25,7 +25,7 @@ pub enum Few {
 }
 
 /// The kind of a goal in memory: the byte or word of an array at an index, or a property of an object.
-#[derive(Clone, Copy, Debug, PartialEq, Eq)]
+#[derive(Clone, Copy)]
 pub enum Memory {
     Byte,
     Word,
@@ -33,7 +33,7 @@ pub enum Memory {
 }
 
 /// A task: something to be laid. Trees are given by their places.
-#[derive(Clone, Copy, Debug, PartialEq, Eq)]
+#[derive(Clone, Copy)]
 pub enum Task {
     /// A tree with its value in a variable, or on the stack.
     Value(usize, u8),
@@ -57,7 +57,7 @@ pub enum Task {
 }
 
 /// An instruction whose parts are worked out.
-#[derive(Clone, Copy, Debug, PartialEq, Eq)]
+#[derive(Clone, Copy)]
 pub enum Worked {
     Compute(Operation, usize, usize, u8),
     Negate(usize, u8),

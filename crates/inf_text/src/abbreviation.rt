@@ -52,7 +52,7 @@ impl<T: Drop> From<AllocFailed<T>> for AbbrevFault {
 }
 
 /// The abbreviations declared so far, at most 64, in the order of their declaration.
-#[derive(Debug, Drop)]
+#[derive(Drop)]
 pub struct Abbreviations {
     texts: Vec<Text>,
     index: Index,

@@ -19,7 +19,7 @@ pub(crate) const MOST: usize = 64;
 
 /// An abbreviation by its number and its length, how many items it has in common with the one before
 /// it, and the code of the next item.
-#[derive(Clone, Copy, Debug, Default)]
+#[derive(Clone, Copy, Default)]
 pub(crate) struct Link {
     number: u8,
     next: u8,
@@ -29,14 +29,14 @@ pub(crate) struct Link {
 
 /// For each code the places from the first to the last text that begins with it, and the place
 /// behind.
-#[derive(Clone, Copy, Debug)]
+#[derive(Clone, Copy)]
 pub(crate) struct Ranges {
     starts: [u8; 256],
     ends: [u8; 256],
 }
 
 /// The texts by their numbers, sorted, and in the order of the search.
-#[derive(Debug, Drop)]
+#[derive(Drop)]
 pub(crate) struct Index {
     sorted: ArrayVec<u8, MOST>,
     order: ArrayVec<u8, MOST>,

@@ -10,7 +10,7 @@ use inf_scanner::Place;
 use inf_syntax::Keyword;
 
 /// A directive that is carried out by its own function, told by its word.
-#[derive(Clone, Copy, Debug, PartialEq, Eq)]
+#[derive(Clone, Copy)]
 pub enum Directive {
     Include,
     Message,
@@ -31,7 +31,7 @@ pub enum Directive {
 }
 
 /// A request of a finished directive to the reading.
-#[derive(Debug, Drop)]
+#[derive(Drop)]
 pub enum Request {
     Nothing,
     /// Asks to read the file whose name is `text`, for the directive that begins at `unit`.

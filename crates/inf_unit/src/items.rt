@@ -3,7 +3,7 @@ ghost use Rattle.std.specs.Prelude.{◌≡◌, bytes_eq};
 ghost use Rattle.inf_unit.specs.Items.{code_behind, is_own, least_code, least_of_rule, rule_of};
 
 /// A rule by which a value is printed (Designer's Manual, fourth edition, section 1.11).
-#[derive(Clone, Copy, Debug, PartialEq, Eq)]
+#[derive(Clone, Copy)]
 pub enum PrintRule {
     Character,
     String,
@@ -19,7 +19,7 @@ pub enum PrintRule {
 }
 
 /// An item that a unit has beside its expressions. Its tokens are told by their places among those of the unit.
-#[derive(Clone, Copy, Debug, PartialEq, Eq)]
+#[derive(Clone, Copy)]
 pub enum Item {
     /// A text that is printed, or the text of an instruction.
     Text(usize),

@@ -8,7 +8,7 @@ use inf_expressions::{Binary, Direction, Operation, PropertyPart, Single, Test, 
 use inf_syntax::Action;
 
 /// A note that an action makes of a unit, beside the steps by which it gathers expressions.
-#[derive(Clone, Copy, Debug, PartialEq, Eq)]
+#[derive(Clone, Copy)]
 pub enum Note {
     /// The next token is the first of a unit.
     Begin,
@@ -54,7 +54,7 @@ pub enum Note {
 }
 
 /// The kind of a unit that ends.
-#[derive(Clone, Copy, Debug, PartialEq, Eq)]
+#[derive(Clone, Copy)]
 pub enum Ending {
     /// The header of a routine, and of one that is the value of a property.
     Locals,
@@ -90,7 +90,7 @@ pub enum Ending {
 }
 
 /// The kind of a statement that begins and holds others.
-#[derive(Clone, Copy, Debug, PartialEq, Eq)]
+#[derive(Clone, Copy)]
 pub enum Opening {
     If,
     While,
@@ -101,7 +101,7 @@ pub enum Opening {
 }
 
 /// The role of an action of the grammar.
-#[derive(Clone, Copy, Debug, PartialEq, Eq)]
+#[derive(Clone, Copy)]
 pub enum Role {
     /// A step of an expression is gathered.
     Gather(GatherStep),

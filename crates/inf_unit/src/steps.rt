@@ -3,7 +3,7 @@
 use inf_expressions::{Binary, Unary};
 
 /// A step by which an expression is gathered.
-#[derive(Clone, Copy, Debug, PartialEq, Eq)]
+#[derive(Clone, Copy)]
 pub enum GatherStep {
     /// The last token is a leaf.
     Leaf,

@@ -17,7 +17,7 @@ use std::alloc::{AllocError, Global};
 use std::marker::Model;
 
 /// A name among the tokens of a unit.
-#[derive(Clone, Copy, Debug)]
+#[derive(Clone, Copy)]
 pub struct NameToken<'t> {
     /// The bytes of the name, 32 at most.
     pub bytes: &'t [u8],

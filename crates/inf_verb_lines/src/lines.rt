@@ -31,7 +31,7 @@ use inf_verbs::LinePlace;
 use std::alloc::{AllocError, Global};
 
 /// The part of a name in a line.
-#[derive(Clone, Copy, Debug, PartialEq, Eq)]
+#[derive(Clone, Copy)]
 pub enum Named {
     /// The word before the sign of a filter.
     Sign,

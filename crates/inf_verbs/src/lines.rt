@@ -7,7 +7,7 @@ use std::alloc::{AllocError, Global};
 use std::marker::Model;
 
 /// The noun that a token takes.
-#[derive(Clone, Copy, Debug, PartialEq, Eq)]
+#[derive(Clone, Copy)]
 pub enum Noun {
     Noun,
     Held,
@@ -22,7 +22,7 @@ pub enum Noun {
 }
 
 /// A token of a line.
-#[derive(Clone, Copy, Debug, PartialEq, Eq)]
+#[derive(Clone, Copy)]
 pub enum LineToken {
     Noun(Noun),
     /// The word with this text. In a list of alternatives, as `'in'/'on'`, others may stand before and behind it.
@@ -42,7 +42,7 @@ pub enum LineToken {
 }
 
 /// A line.
-#[derive(Debug, Drop)]
+#[derive(Drop)]
 pub(crate) struct Line {
     action: u16,
     is_reverse: bool,

@@ -18,7 +18,7 @@ use std::marker::{Model, PhantomData};
 const FIRST_FAKE: u16 = 4096;
 
 /// The reason why an action was not added.
-#[derive(Clone, Copy, Debug, PartialEq, Eq)]
+#[derive(Clone, Copy, Debug)]
 pub enum ActionFault {
     /// There are as many actions as there may be.
     Full,

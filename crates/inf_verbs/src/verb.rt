@@ -13,7 +13,7 @@ use std::marker::Model;
 ///
 /// Those that the last `Extend first` put in front can have more of their own behind them. Those that earlier ones put in front are
 /// kept backwards, so that none is moved twice.
-#[derive(Debug, Drop)]
+#[derive(Drop)]
 pub(crate) struct Verb {
     first: Vec<Line>,
     front: Vec<Line>,

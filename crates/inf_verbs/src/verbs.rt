@@ -19,7 +19,7 @@ use std::marker::{Model, PhantomData};
 const MOST: usize = 255;
 
 /// The place for further lines of a verb.
-#[derive(Clone, Copy, Debug, PartialEq, Eq)]
+#[derive(Clone, Copy)]
 pub enum LinePlace {
     /// The further lines go in front of those that the verb has, in their own order.
     First,
@@ -30,7 +30,7 @@ pub enum LinePlace {
 }
 
 /// The reason why a verb was not added.
-#[derive(Clone, Copy, Debug, PartialEq, Eq)]
+#[derive(Clone, Copy)]
 pub enum VerbFault {
     /// There are 255 verbs.
     TooMany,
@@ -51,7 +51,7 @@ impl<T: Drop> From<AllocFailed<T>> for VerbFault {
 }
 
 /// The reason why a line was not added.
-#[derive(Clone, Copy, Debug, PartialEq, Eq)]
+#[derive(Clone, Copy, Debug)]
 pub enum LineFault {
     /// The grammar would have more bytes than it may have.
     NoSpace,

@@ -7,7 +7,7 @@ use std::alloc::AllocError;
 use std::test::Fail;
 
 /// A call.
-#[derive(Clone, Copy, Debug, PartialEq, Eq)]
+#[derive(Clone, Copy)]
 pub enum Call {
     Directive,
     Header,
@@ -23,7 +23,7 @@ pub enum Call {
 }
 
 /// The answer to a call.
-#[derive(Clone, Copy, Debug, PartialEq, Eq)]
+#[derive(Clone, Copy)]
 pub enum Answer {
     Done,
     Left(Option<Simple>),
