@@ -73,5 +73,4 @@ constant_ended limits context first None w = (
 
 -- The end of a constant before a token at a place.
 abbrev pub constant_alone : Limits → Context → Place → Compilation → Compilation × Told
-constant_alone limits context place w =
-    constant_ended limits context (own_place w.unit place) (finding_at 0 Wanted.Constant w) w
+constant_alone limits context place w = constant_ended limits context (own_place w.unit place) (finding_at 0 Wanted.Constant w) w

@@ -110,8 +110,7 @@ fn settle<B: Bounds>(
     first: Place,
 ) -> Result<Forest, AllocError>
     ensures { IfOk result (λ forest. let s = settled_of B.most (handed context.now) (work compilation.old) in
-        let w = work compilation.old in
-        (trees_in forest ≡ trees_at (order w.unit.begun) Wanted.Value s.operands w)
+        let w = work compilation.old in (trees_in forest ≡ trees_at (order w.unit.begun) Wanted.Value s.operands w)
         × (work compilation.new ≡ record w { output = record s.out { first = first } })) }
 {
     let operands = settled(
@@ -210,8 +209,7 @@ pub fn end_constant<B: Bounds>(
     context: &Context<'_>,
     place: Place,
 ) -> Result<Told, AllocError>
-    ensures { IfOk result (λ told. (work compilation.new, told)
-        ≡ constant_alone B.most (handed context.now) place (work compilation.old)) }
+    ensures { IfOk result (λ told. (work compilation.new, told) ≡ constant_alone B.most (handed context.now) place (work compilation.old)) }
 {
     let first = compilation.unit.own_place(place);
     let Some(found) = look_constant(compilation)? else {

@@ -12,8 +12,7 @@ length-front to from k xs before within =
 pub moved_get : (to from k : ℕ) (xs : List ℕ) → to ≤ from → from + k < length xs →
     get_or (moved to from k xs) (from + k) 0 ≡ get_or xs (from + k) 0
 moved_get to from k xs before within = get_or-append_right (take to xs ++ take k (drop from xs)) (drop (to + k) xs) (to + k) (from + k) 0
-    (length-front to from k xs before (omega arith)) (omega arith)
-    ∙ get_or-drop (to + k) xs (from + k - (to + k)) 0
+    (length-front to from k xs before (omega arith)) (omega arith) ∙ get_or-drop (to + k) xs (from + k - (to + k)) 0
     ∙ ap (λ i. get_or xs i 0) (omega arith)
 
 -- one more byte is moved
@@ -22,11 +21,9 @@ pub moved_more : (to from k byte : ℕ) (xs : List ℕ) → to ≤ from → from
 moved_more to from k byte xs before within is =
     let front = take to xs ++ take k (drop from xs) in
     let left : k < length (drop from xs) = omega (arith, length-drop from xs) in
-    let zeroth : to + k - (to + k) ≡ 0 = omega arith in
-    let next : to + k + 1 ≡ to + (k + 1) = omega arith in
+    let zeroth : to + k - (to + k) ≡ 0 = omega arith in let next : to + k + 1 ≡ to + (k + 1) = omega arith in
     set-append_right front (drop (to + k) xs) (to + k) (to + k) byte (length-front to from k xs before (omega arith)) (omega arith)
-    ∙ ap (λ i. front ++ set (drop (to + k) xs) i byte) zeroth
-    ∙ ap (λ ys. front ++ set ys 0 byte) (drop_more xs (to + k) 0 (omega arith))
+    ∙ ap (λ i. front ++ set (drop (to + k) xs) i byte) zeroth ∙ ap (λ ys. front ++ set ys 0 byte) (drop_more xs (to + k) 0 (omega arith))
     ∙ sym (append_assoc front (byte ∷ []) (drop (to + k + 1) xs))
     ∙ ap (λ ys. ys ++ drop (to + k + 1) xs) (append_assoc (take to xs) (take k (drop from xs)) (byte ∷ []))
     ∙ ap (λ b. take to xs ++ (take k (drop from xs) ++ b ∷ []) ++ drop (to + k + 1) xs) (is ∙ sym (get_or-drop from xs k 0))
@@ -36,8 +33,7 @@ moved_more to from k byte xs before within is =
 -- nothing is moved yet
 pub moved_none : (to from n : ℕ) (xs : List ℕ) → n ≡ 0 → to ≤ from → from ≤ length xs → xs ≡ moved to from n xs
 moved_none to from n xs e before within = sym (take-append-drop to xs) ∙ ap (λ i. take to xs ++ drop i xs) (omega arith)
-    ∙ ap (λ ys. ys ++ drop (to + 0) xs) (sym (append-nil (take to xs)))
-    ∙ ap (λ i. moved to from i xs) (sym e)
+    ∙ ap (λ ys. ys ++ drop (to + 0) xs) (sym (append-nil (take to xs))) ∙ ap (λ i. moved to from i xs) (sym e)
 
 -- the bytes up to the new end are those in front and those that were moved
 pub take_moved : (to from n : ℕ) (xs : List ℕ) → to ≤ from → from + n ≡ length xs →

@@ -15,19 +15,16 @@ with_bytes-left : (xs ys : List ℕ) (at : ℕ) (bytes : List ℕ) → at + leng
 with_bytes-left xs ys at bytes le =
     let n = at + length bytes in
     ap (λ front. front ++ bytes ++ drop n (xs ++ ys)) (take-append-le at xs ys (omega arith))
-    ∙ ap (λ back. take at xs ++ bytes ++ back) (drop-append-le n xs ys le)
-    ∙ sym (append_assoc (take at xs ++ bytes) (drop n xs) ys)
+    ∙ ap (λ back. take at xs ++ bytes ++ back) (drop-append-le n xs ys le) ∙ sym (append_assoc (take at xs ++ bytes) (drop n xs) ys)
 
 -- bytes that are set within the second list
 with_bytes-right : (xs ys : List ℕ) (at : ℕ) (bytes : List ℕ) → with_bytes (xs ++ ys) (length xs + at) bytes ≡ xs ++ with_bytes ys at bytes
 with_bytes-right xs ys at bytes =
-    let n = at + length bytes in
-    let sum : length xs + at + length bytes ≡ length xs + n = omega arith in
+    let n = at + length bytes in let sum : length xs + at + length bytes ≡ length xs + n = omega arith in
     ap (λ front. front ++ bytes ++ drop (length xs + at + length bytes) (xs ++ ys)) (take-append-add xs ys at)
     ∙ ap (λ k. (xs ++ take at ys) ++ bytes ++ drop k (xs ++ ys)) sum
     ∙ ap (λ back. (xs ++ take at ys) ++ bytes ++ back) (drop-append-add xs ys n)
-    ∙ ap (λ front. front ++ drop n ys) (append_assoc xs (take at ys) bytes)
-    ∙ append_assoc xs (take at ys ++ bytes) (drop n ys)
+    ∙ ap (λ front. front ++ drop n ys) (append_assoc xs (take at ys) bytes) ∙ append_assoc xs (take at ys ++ bytes) (drop n ys)
 
 pub length-with_bytes : (xs : List ℕ) (at : ℕ) (bytes : List ℕ) → at + length bytes ≤ length xs → length (with_bytes xs at bytes) ≡ length xs
 length-with_bytes xs at bytes le =
@@ -44,8 +41,7 @@ length-with_bytes xs at bytes le =
 pub take-with_bytes : (xs : List ℕ) (at : ℕ) (bytes : List ℕ) → at + length bytes ≤ length xs →
     take (at + length bytes) (with_bytes xs at bytes) ≡ take at xs ++ bytes
 take-with_bytes xs at bytes le =
-    let front = take at xs ++ bytes in
-    let behind = drop (at + length bytes) xs in
+    let front = take at xs ++ bytes in let behind = drop (at + length bytes) xs in
     let len : at + length bytes ≡ length front = omega (arith, length-append (take at xs) bytes, length-take at xs) in
     ap (λ n. take n (front ++ behind)) len ∙ take-append_seam front behind
 
@@ -72,13 +68,11 @@ module _ (X : Type 0) (f : X → List ℕ) where
   page_set [] p o b e y whole small within is = absurd (omega arith)
   page_set (x ∷ xs) zero o b e y whole small within is =
       let here : 1024 * 0 + o ≡ o = omega arith in
-      ap (λ ys. ys ++ flat_map f xs) is
-      ∙ sym (set-append_left (f x) (flat_map f xs) o b (omega (arith, whole.0)))
+      ap (λ ys. ys ++ flat_map f xs) is ∙ sym (set-append_left (f x) (flat_map f xs) o b (omega (arith, whole.0)))
       ∙ ap (λ i. set (f x ++ flat_map f xs) i b) (sym here)
   page_set (x ∷ xs) (suc p) o b e y whole small within is =
       let there : 1024 * suc p + o - 1024 ≡ 1024 * p + o = omega arith in
-      ap (λ ys. f x ++ ys) (page_set xs p o b e y whole.1 small (omega arith) is)
-      ∙ ap (λ i. f x ++ set (flat_map f xs) i b) (sym there)
+      ap (λ ys. f x ++ ys) (page_set xs p o b e y whole.1 small (omega arith) is) ∙ ap (λ i. f x ++ set (flat_map f xs) i b) (sym there)
       ∙ sym (set-append_right (f x) (flat_map f xs) 1024 (1024 * suc p + o) b whole.0 (omega arith))
 
   -- setting bytes sets those of one page
@@ -88,14 +82,12 @@ module _ (X : Type 0) (f : X → List ℕ) where
   page_put [] p o bytes e y whole room within is = absurd (omega arith)
   page_put (x ∷ xs) zero o bytes e y whole room within is =
       let here : 1024 * 0 + o ≡ o = omega arith in
-      ap (λ ys. ys ++ flat_map f xs) is
-      ∙ sym (with_bytes-left (f x) (flat_map f xs) o bytes (omega (arith, whole.0)))
+      ap (λ ys. ys ++ flat_map f xs) is ∙ sym (with_bytes-left (f x) (flat_map f xs) o bytes (omega (arith, whole.0)))
       ∙ ap (λ i. with_bytes (f x ++ flat_map f xs) i bytes) (sym here)
   page_put (x ∷ xs) (suc p) o bytes e y whole room within is =
       let there : 1024 * suc p + o ≡ length (f x) + (1024 * p + o) = omega (arith, whole.0) in
       ap (λ ys. f x ++ ys) (page_put xs p o bytes e y whole.1 room (omega arith) is)
-      ∙ sym (with_bytes-right (f x) (flat_map f xs) (1024 * p + o) bytes)
-      ∙ ap (λ i. with_bytes (f x ++ flat_map f xs) i bytes) (sym there)
+      ∙ sym (with_bytes-right (f x) (flat_map f xs) (1024 * p + o) bytes) ∙ ap (λ i. with_bytes (f x ++ flat_map f xs) i bytes) (sym there)
 
   -- a page that is set stays whole
   pub whole_set : (xs : List X) (p : ℕ) (y : X) → AllByRecursion (λ x. length (f x) ≡ 1024) xs → length (f y) ≡ 1024 →
@@ -126,21 +118,17 @@ module _ (X : Type 0) (f : X → List ℕ) where
       → take n (flat_map f (drop i xs)) ≡ take count (f (get_or xs i e)) ++ take (n - count) (flat_map f (drop (suc i) xs))
   take_page [] i n count e whole within is = absurd (omega arith)
   take_page (x ∷ xs) (suc i) n count e whole within is = take_page xs i n count e whole.1 (omega arith) is
-  take_page (x ∷ xs) zero n count e whole within is = go (cases_lt n 1024)
-    where
-      go : (n < 1024) ⊎ (1024 ≤ n) → take n (f x ++ flat_map f xs) ≡ take count (f x) ++ take (n - count) (flat_map f xs)
-      go (inl lt) =
-          let all : count ≡ n = omega (arith, is) in
-          let none : n - count ≡ 0 = omega arith in
-          rw none (take-append-le n (f x) (flat_map f xs) (omega (arith, whole.0))
-          ∙ ap (λ k. take k (f x)) (sym all)
-          ∙ sym (append-nil (take count (f x))))
-      go (inr le) =
-          let page : count ≡ length (f x) = omega (arith, is, whole.0) in
-          let sum : n ≡ length (f x) + (n - count) = omega arith in
-          ap (λ k. take k (f x ++ flat_map f xs)) sum
-          ∙ take-append-add (f x) (flat_map f xs) (n - count)
-          ∙ ap (λ ys. ys ++ take (n - count) (flat_map f xs)) (sym (ap (λ k. take k (f x)) page ∙ take_all (length (f x)) (f x) (omega arith)))
+  take_page (x ∷ xs) zero n count e whole within is = go (cases_lt n 1024) where
+    go : (n < 1024) ⊎ (1024 ≤ n) → take n (f x ++ flat_map f xs) ≡ take count (f x) ++ take (n - count) (flat_map f xs)
+    go (inl lt) =
+        let all : count ≡ n = omega (arith, is) in let none : n - count ≡ 0 = omega arith in
+        rw none (take-append-le n (f x) (flat_map f xs) (omega (arith, whole.0)) ∙ ap (λ k. take k (f x)) (sym all)
+        ∙ sym (append-nil (take count (f x))))
+    go (inr le) =
+        let page : count ≡ length (f x) = omega (arith, is, whole.0) in
+        let sum : n ≡ length (f x) + (n - count) = omega arith in
+        ap (λ k. take k (f x ++ flat_map f xs)) sum ∙ take-append-add (f x) (flat_map f xs) (n - count)
+        ∙ ap (λ ys. ys ++ take (n - count) (flat_map f xs)) (sym (ap (λ k. take k (f x)) page ∙ take_all (length (f x)) (f x) (omega arith)))
 
 -- setting a byte sets it among the first bytes
 pub take_set : (n i b : ℕ) (xs : List ℕ) → take n (set xs i b) ≡ set (take n xs) i b

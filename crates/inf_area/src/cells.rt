@@ -155,7 +155,6 @@ fn lay(alloc: Global, area: AreaName, from: usize, cells: &[Cell]) -> Result<Lai
     Ok(laid)
 }
 
-/// Counts the cells that are known later.
 fn later_count(cells: &[Cell]) -> usize
     ensures { result ≡ later_count cells.now }
 {
@@ -180,8 +179,7 @@ pub fn append_cells<A: Area>(
     cells: &[Cell],
 ) -> Result<(), WriteFault>
     ensures bytes { OnOk result (A.bytes area.new ≡ A.bytes area.old ++ bytes_of cells.now) }
-    ensures fixups { OnOk result (refs.new
-        ≡ with_fixups (refs.old.list ++ fixups_of name (length (A.bytes area.old)) cells.now) refs.old) }
+    ensures fixups { OnOk result (refs.new ≡ with_fixups (refs.old.list ++ fixups_of name (length (A.bytes area.old)) cells.now) refs.old) }
     ensures room { OnOk result (length refs.old.list + later_count cells.now ≤ refs.old.limit) }
     ensures bytes_stay { OnErr result (A.bytes area.new ≡ A.bytes area.old) }
     ensures fixups_stay { OnErr result (refs.new ≡ refs.old) }
@@ -207,8 +205,7 @@ fn append_all<A: Area>(
 ) -> Result<(), AllocError>
     requires room { length refs.old.list + later_count cells.now ≤ refs.old.limit }
     ensures bytes { OnOk result (A.bytes area.new ≡ A.bytes area.old ++ bytes_of cells.now) }
-    ensures fixups { OnOk result (refs.new
-        ≡ with_fixups (refs.old.list ++ fixups_of name (length (A.bytes area.old)) cells.now) refs.old) }
+    ensures fixups { OnOk result (refs.new ≡ with_fixups (refs.old.list ++ fixups_of name (length (A.bytes area.old)) cells.now) refs.old) }
     ensures bytes_stay { OnErr result (A.bytes area.new ≡ A.bytes area.old) }
     ensures fixups_stay { OnErr result (refs.new ≡ refs.old) }
 {

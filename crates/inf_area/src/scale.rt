@@ -2,9 +2,8 @@
 ghost use Rattle.std.specs.Prelude.{◌≡◌, ◌<◌};
 ghost use Rattle.inf_area.specs.Scales.{gap, most_bytes, scale_number, version};
 
-/// A number that packed addresses are multiplied by (Z-Machine Standard 1.1, section 1.2.3), which belongs to a version
-/// of the Z-machine.
-#[derive(Clone, Copy)]
+/// A number that packed addresses are multiplied by (Z-Machine Standard 1.1, section 1.2.3), which belongs to a version of the Z-machine.
+#[derive(Clone, Copy, Debug)]
 pub enum Scale {
     /// Four, of version 5.
     Four,

@@ -1,7 +1,7 @@
 //! Numbers that are known only when the story is laid out.
 
 /// The areas of a story that are filled piece by piece, in the order that they have in the story.
-#[derive(Clone, Copy, PartialEq, Eq)]
+#[derive(Clone, Copy, Debug, PartialEq, Eq)]
 pub enum AreaName {
     LowStrings,
     Abbreviations,
@@ -21,7 +21,7 @@ pub enum AreaName {
 }
 
 /// A number for which a source can ask the story as a whole (Designer's Manual, fourth edition, section 39).
-#[derive(Clone, Copy, PartialEq, Eq)]
+#[derive(Clone, Copy, Debug, PartialEq, Eq)]
 pub enum SystemConstant {
     /// The address of the words that have the addresses of the verbs' lines.
     GrammarTable,
@@ -47,7 +47,7 @@ pub enum SystemConstant {
 ///
 /// Its kind decides the unit: a place in code or strings is a packed address, the place of a low string an address in words, and
 /// every other place an address in bytes (Z-Machine Standard 1.1, sections 1.2.2 and 1.2.3).
-#[derive(Clone, Copy, PartialEq, Eq)]
+#[derive(Clone, Copy, Debug, PartialEq, Eq)]
 pub enum Target {
     /// The value of the name that has this number among the names of the source.
     Name(usize),
@@ -62,7 +62,7 @@ pub enum Target {
 }
 
 /// The value of an operand, of an entry of an array or of a property.
-#[derive(Clone, Copy)]
+#[derive(Clone, Copy, Debug, PartialEq, Eq)]
 pub enum Value {
     /// A number that is known at once.
     Known(u16),

@@ -57,8 +57,7 @@ laters_opened xs k =
 pub opened_stands : (closed : List Listed) (k : ArrayKind) (size later limit n : ℕ)
     → size ≡ arrays_size (closed ++ []) → later ≡ arrays_laters (closed ++ []) → later ≤ size → size + n ≤ limit → n ≡ count_size k
     → (size + n ≡ arrays_size (closed ++ record { kind = k; entries = [] } ∷ [])) ×
-    (later ≡ arrays_laters (closed ++ record { kind = k; entries = [] } ∷ []))
-    × (later ≤ size + n) × (size + n ≤ limit)
+    (later ≡ arrays_laters (closed ++ record { kind = k; entries = [] } ∷ [])) × (later ≤ size + n) × (size + n ≤ limit)
 opened_stands closed k size later limit n of_size of_later less room is = (
   omega (arith, of_size, is, size_opened closed k, ap arrays_size (append-nil closed)),
   omega (arith, of_later, laters_opened closed k, ap arrays_laters (append-nil closed)),
@@ -70,8 +69,7 @@ opened_stands closed k size later limit n of_size of_later less room is = (
 pub grown_stands : (closed : List Listed) (a : Listed) (ys : List Value) (size later limit e l : ℕ)
     → size ≡ arrays_size (closed ++ a ∷ []) → later ≡ arrays_laters (closed ++ a ∷ []) → later ≤ size
     → size + entry_size a.kind * length ys ≤ limit → e ≡ entry_size a.kind * length ys → l ≡ laters_of a.kind ys → l ≤ entry_size a.kind *
-    length ys
-    → (size + e ≡ arrays_size (closed ++ more_entries ys a ∷ [])) × (later + l ≡ arrays_laters (closed ++ more_entries ys a ∷ []))
+    length ys → (size + e ≡ arrays_size (closed ++ more_entries ys a ∷ [])) × (later + l ≡ arrays_laters (closed ++ more_entries ys a ∷ []))
     × (later + l ≤ size + e) × (size + e ≤ limit)
 grown_stands closed a ys size later limit e l of_size of_later less room is_e is_l few = (
   omega (arith, of_size, is_e, size_more closed a ys),

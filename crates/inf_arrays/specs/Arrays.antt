@@ -1,5 +1,5 @@
 -- The arrays of a story: each is its kind and its entries; the last one may be open.
-use Rattle.std.specs.Prelude.{ℕ, ◌+◌, ◌*◌, ◌≤◌, List, [], ◌∷◌, ◌++◌, Option, Some, None, Bool, true, false, nat_lt, length, map, option_map}
+use Rattle.std.specs.Prelude.{ℕ, ◌+◌, ◌*◌, ◌≤◌, List, [], ◌∷◌, ◌++◌, Option, Some, None, Bool, true, nat_lt, length, option_map}
 use Rattle.std.specs.Prelude.{option_to_list, replicate, if◌then◌else◌}
 use Rattle.inf_area.specs.{Sums.sum_of, declared.cells.Cell.Cell, declared.targets.Value.Value}
 use Rattle.inf_settings.specs.{Bounds.Limits, declared.setting.Setting.Setting}
@@ -35,8 +35,7 @@ more_entries values array = record { kind = array.kind; entries = array.entries 
 
 -- the arrays where the open one has more entries
 abbrev pub with_entries : List Value → AllArrays → AllArrays
-with_entries values arrays =
-    record { closed = arrays.closed; open_one = option_map (more_entries values) arrays.open_one }
+with_entries values arrays = record { closed = arrays.closed; open_one = option_map (more_entries values) arrays.open_one }
 
 -- the characters of a text
 abbrev pub characters : List ℕ → List Value

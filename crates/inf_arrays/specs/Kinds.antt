@@ -1,6 +1,5 @@
--- Kinds of arrays: the entries that fit in them, and how these are written (Designer's Manual, fourth edition, section
--- 2.4).
-use Rattle.std.specs.Prelude.{ℕ, ◌+◌, ◌*◌, ◌/◌, ◌%◌, List, [], ◌∷◌, ◌++◌, Option, Some, None, Bool, true, false, ◌&&◌, not, nat_le, nat_lt}
+-- Kinds of arrays: the entries that fit in them, and how these are written (Designer's Manual, fourth edition, section 2.4).
+use Rattle.std.specs.Prelude.{ℕ, ◌+◌, ◌%◌, List, [], ◌∷◌, Option, Some, None, Bool, true, false, ◌&&◌, not, nat_le, nat_lt}
 use Rattle.std.specs.Prelude.{length, if◌then◌else◌}
 use Rattle.inf_area.specs.{Cells.values_cells, Cells.word_cells, Sums.sum_of, declared.cells.Cell.Cell, declared.targets.Value.Value}
 use Rattle.inf_arrays.specs.{declared.arrays.ArrayFault.ArrayFault, declared.kinds.ArrayKind.ArrayKind}

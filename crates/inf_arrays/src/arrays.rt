@@ -125,7 +125,6 @@ fn add_bytes(cells: &mut Cells, values: &[Value]) -> Result<(), AllocError>
     Ok(())
 }
 
-/// Returns the byte of a value that is known to be one.
 fn low_byte(value: Value) -> u8
     ensures { result ≡ low_byte value }
 {
@@ -270,8 +269,7 @@ impl<B: Bounds> Arrays<B> {
         Ok(())
     }
 
-    /// Adds the characters of a text, in ZSCII, to the open array, as a text alone asks for. Where none is open nothing
-    /// happens.
+    /// Adds the characters of a text, in ZSCII, to the open array, as a text alone asks for. Where none is open nothing happens.
     ///
     /// The call is refused as `entry` is.
     pub fn characters(&mut self, text: &[u8]) -> Result<(), ArrayFault>
@@ -321,8 +319,7 @@ impl<B: Bounds> Arrays<B> {
         }
     }
 
-    // Returns the fault of `added` more entries, where `fit` says whether all of them are bytes; `None` where no array is
-    // open.
+    // Returns the fault of `added` more entries, where `fit` says whether all of them are bytes; `None` where no array is open.
     fn fault_of(&self, added: usize, fit: bool) -> Option<ArrayFault>
         requires { added < 2 ^ 63 }
         ensures { result ≡ fault_by B.most added fit self.now }
@@ -365,8 +362,7 @@ impl<B: Bounds> Arrays<B> {
         Ok(())
     }
 
-    /// Appends all arrays, one behind the other, to the area of arrays, and the fixups of the entries that are known later
-    /// to `refs`.
+    /// Appends all arrays, one behind the other, to the area of arrays, and the fixups of the entries that are known later to `refs`.
     ///
     /// The call is refused first where there would be more fixups than there may be, then for want of memory; area and
     /// fixups then stay unchanged.

@@ -55,14 +55,12 @@ pub(crate) fn laters(values: &[Value]) -> usize
 }
 
 impl ArrayKind {
-    /// Returns whether an entry of this kind is a byte.
     fn is_of_bytes(self) -> bool
         ensures { result ≡ is_of_bytes self }
     {
         matches!(self, ArrayKind::Bytes | ArrayKind::String)
     }
 
-    /// Returns the number of bytes of an entry.
     pub(crate) fn entry_size(self) -> usize
         ensures { result ≡ entry_size self }
     {
@@ -72,7 +70,6 @@ impl ArrayKind {
         }
     }
 
-    /// Returns the number of bytes of the count before the entries.
     pub(crate) fn count_size(self) -> usize
         ensures { result ≡ count_size self }
     {
@@ -104,8 +101,6 @@ impl ArrayKind {
     }
 }
 
-/// Returns the fault of `added` values behind `count` entries of an array of kind `kind`, if there is one, where `fit` says
-/// whether all of them are bytes.
 pub(crate) fn misfit_by(
     kind: ArrayKind,
     count: usize,

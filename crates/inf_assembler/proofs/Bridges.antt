@@ -43,8 +43,7 @@ place_bridge long saved old new ((Plain byte) ∷ cells) n e = place_bridge long
 place_bridge long saved old new ((Of what) ∷ cells) n e =
     let here : old - saved ≡ new = omega arith in
     ap (λ p. cond (marks n what) (Some p) (kept_place long (saved + special_saving long old what)
-    (kept_from (old + special_size what) cells) n)) here
-    ∙ ap (λ o. cond (marks n what) (Some new) o)
+    (kept_from (old + special_size what) cells) n)) here ∙ ap (λ o. cond (marks n what) (Some new) o)
     (place_bridge long (saved + special_saving long old what) (old + special_size what) (new + size_at long old what) cells n
     (omega (arith, size_saving long old what)))
 
@@ -94,16 +93,12 @@ squeezed_special : (long places : Places) (what : Special) (cells : List Cell) (
     → (closed : Option (List ℕ)) → closed ≡ closed_special long places (from + length mid) (to + length mid) what
     → with_bytes (λ added. squeezed long places (from + length mid + special_size what) (to + length mid + length added)
     (kept_from (from + length mid + special_size what) cells) (placed_bytes to from (length mid) added xs)) closed
-    ≡ with_some (λ rest. take to xs ++ mid ++ rest)
-    (joined closed (closed_bytes long places (from + length mid + special_size what)
+    ≡ with_some (λ rest. take to xs ++ mid ++ rest) (joined closed (closed_bytes long places (from + length mid + special_size what)
     (to + length mid + size_at long (from + length mid) what) cells))
 squeezed_special long places what cells mid from to xs before within e next None is = refl
 squeezed_special long places what cells mid from to xs before within e next (Some added) is =
-    let n = length mid in
-    let special = special_bytes what in
-    let new = to + n + length added in
-    let old = from + n + special_size what in
-    let ys = placed_bytes to from n added xs in
+    let n = length mid in let special = special_bytes what in let new = to + n + length added in
+    let old = from + n + special_size what in let ys = placed_bytes to from n added xs in
     let size = closed_size long places (from + n) (to + n) what added (sym is) in
     let small = size_le long (from + n) what in
     let long_all : length (drop from xs) ≡ n + (special_size what + length (long_bytes cells)) =
@@ -139,26 +134,22 @@ squeezed_cells long places ((Plain byte) ∷ cells) mid from to xs before within
     let new : to + length (mid ++ byte ∷ []) ≡ to + length mid + 1 = omega (arith, more) in
     ap (λ k. squeezed long places from to (kept_from k cells) xs) (sym old)
     ∙ squeezed_cells long places cells (mid ++ byte ∷ []) from to xs before within
-    (e ∙ sym (append_assoc mid (byte ∷ []) (long_bytes cells)))
-    ∙ ap (λ k. with_some (λ rest. take to xs ++ (mid ++ byte ∷ []) ++ rest)
+    (e ∙ sym (append_assoc mid (byte ∷ []) (long_bytes cells))) ∙ ap (λ k. with_some (λ rest. take to xs ++ (mid ++ byte ∷ []) ++ rest)
     (closed_bytes long places k (to + length (mid ++ byte ∷ [])) cells)) old
     ∙ ap (λ k. with_some (λ rest. take to xs ++ (mid ++ byte ∷ []) ++ rest) (closed_bytes long places (from + length mid + 1) k cells)) new
     ∙ with_some-map (λ rest. take to xs ++ mid ++ rest) (λ rest. byte ∷ rest) (λ rest. take to xs ++ (mid ++ byte ∷ []) ++ rest)
     (λ rest. ap (λ zs. zs ++ rest) (sym (append_assoc (take to xs) mid (byte ∷ []))) ∙ append_assoc (take to xs ++ mid) (byte ∷ []) rest)
     (closed_bytes long places (from + length mid + 1) (to + length mid + 1) cells)
 squeezed_cells long places ((Of what) ∷ cells) mid from to xs before within e =
-    let n = length mid in
-    let back : from + n - from ≡ n = omega arith in
+    let n = length mid in let back : from + n - from ≡ n = omega arith in
     let whole : ℕ → Option (List ℕ) = λ k. with_bytes (λ added. squeezed long places (from + n + special_size what) (to + k + length added)
     (kept_from (from + n + special_size what) cells) (placed_bytes to from k added xs))
     (closed_special long places (from + n) (to + k) what) in
     let next : (from to : ℕ) (xs : List ℕ) → to ≤ from → from ≤ length xs → drop from xs ≡ long_bytes cells → squeezed long places from to
     (kept_from from cells) xs ≡ with_some (λ rest. take to xs ++ rest) (closed_bytes long places from to cells) =
     λ from to xs before within e.
-    let old : from + 0 ≡ from = omega arith in
-    let new : to + 0 ≡ to = omega arith in
-    ap (λ k. squeezed long places from to (kept_from k cells) xs) (sym old)
-    ∙ squeezed_cells long places cells [] from to xs before within e
+    let old : from + 0 ≡ from = omega arith in let new : to + 0 ≡ to = omega arith in
+    ap (λ k. squeezed long places from to (kept_from k cells) xs) (sym old) ∙ squeezed_cells long places cells [] from to xs before within e
     ∙ ap (λ k. with_some (λ rest. take to xs ++ [] ++ rest) (closed_bytes long places k (to + 0) cells)) old
     ∙ ap (λ k. with_some (λ rest. take to xs ++ [] ++ rest) (closed_bytes long places from k cells)) new
     ∙ with_some-same (λ rest. take to xs ++ rest) (λ rest. take to xs ++ [] ++ rest)
@@ -171,8 +162,7 @@ pub squeezed_bridge : (long places : Places) (cells : List Cell) (front : List �
     → squeezed long places start start (kept_from start cells) (front ++ long_bytes cells) ≡ with_some (λ rest. front ++ rest)
     (closed_bytes long places start start cells)
 squeezed_bridge long places cells front start is =
-    let zeroth : start + 0 ≡ start = omega arith in
-    let xs = front ++ long_bytes cells in
+    let zeroth : start + 0 ≡ start = omega arith in let xs = front ++ long_bytes cells in
     ap (λ k. squeezed long places start start (kept_from k cells) xs) (sym zeroth)
     ∙ squeezed_cells long places cells [] start start xs (omega arith) (omega (arith, length-append front (long_bytes cells)))
     (drop_at front (long_bytes cells) start (sym is))
@@ -201,8 +191,7 @@ long_push place [] what n = marked-cond (marks n what) place 0
 long_push place ((Plain byte) ∷ before) what n = long_push (place + 1) before what n
 long_push place ((Of first) ∷ before) what n =
     marked_first (marks n first) place (long_place (place + special_size first) (before ++ Of what ∷ []) n)
-    (long_place (place + special_size first) before n) (one n what)
-    (long_push (place + special_size first) before what n)
+    (long_place (place + special_size first) before n) (one n what) (long_push (place + special_size first) before what n)
 
 marked_same : (b : Bool) (p q : ℕ) (x y : Option ℕ) → is_some x ≡ is_some y →
     is_some (first_of x (cond b (Some p) None)) ≡ is_some (first_of y (cond b (Some q) None))
@@ -226,8 +215,6 @@ twice_bridge kept before ((Plain byte) ∷ cells) place same = twice_bridge kept
 twice_bridge kept before ((Of what) ∷ cells) place same =
     let entry : Kept = record { place = place; what = what } in
     ap (λ o. first_of o (kept_twice (kept ++ entry ∷ []) (kept_from (place + special_size what) cells))) (again_same kept before what same)
-    ∙ ap (first_of (marked_again before what))
-    (twice_bridge (kept ++ entry ∷ []) (before ++ Of what ∷ []) cells (place + special_size what)
+    ∙ ap (first_of (marked_again before what)) (twice_bridge (kept ++ entry ∷ []) (before ++ Of what ∷ []) cells (place + special_size what)
     (λ n. ap is_some (kept_place-push 0 kept entry n) ∙ marked_same (marks n what) (place - 0) 0 (kept_place nowhere 0 kept n)
-    (long_place 0 before n) (same n)
-    ∙ sym (unfold one in long_push 0 before what n)))
+    (long_place 0 before n) (same n) ∙ sym (unfold one in long_push 0 before what n)))

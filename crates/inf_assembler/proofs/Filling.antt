@@ -27,6 +27,5 @@ full_is parts state bytes refs len text more e f at =
     ap (λ k. full_by k (more.bytes + text) more.fixups state len refs) (labels_is parts more e)
     ∙ ap (λ k. full_by (label_count (instruction_cells parts)) k more.fixups state len refs) size
     ∙ ap (λ k. full_by (label_count (instruction_cells parts)) (length (long_bytes (instruction_cells parts))) k state len refs)
-    (fixups_are parts more e)
-    ∙ ap (λ k. full_by (label_count (instruction_cells parts)) (length (long_bytes (instruction_cells parts)))
+    (fixups_are parts more e) ∙ ap (λ k. full_by (label_count (instruction_cells parts)) (length (long_bytes (instruction_cells parts)))
     (fixup_count (instruction_cells parts)) state k refs) at

@@ -15,21 +15,15 @@ decoded ((Plain byte) ∷ cells) mid place =
     let more : place + length mid + 1 ≡ place + length (mid ++ byte ∷ []) = omega (arith, length-append mid (byte ∷ [])) in
     ap (λ k. cells_of place (kept_from k cells) (mid ++ byte ∷ long_bytes cells)) more
     ∙ ap (cells_of place (kept_from (place + length (mid ++ byte ∷ [])) cells)) (sym (append_assoc mid (byte ∷ []) (long_bytes cells)))
-    ∙ decoded cells (mid ++ byte ∷ []) place
-    ∙ ap (λ cs. cs ++ cells) (map-append Plain mid (byte ∷ []))
+    ∙ decoded cells (mid ++ byte ∷ []) place ∙ ap (λ cs. cs ++ cells) (map-append Plain mid (byte ∷ []))
     ∙ append_assoc (plain mid) (Plain byte ∷ []) cells
 decoded ((Of what) ∷ cells) mid place =
-    let n = length mid in
-    let special = special_bytes what in
-    let next = place + n + special_size what in
-    let bytes = mid ++ (special ++ long_bytes cells) in
-    let front : place + n - place ≡ n = omega arith in
-    let behind : next - place ≡ n + special_size what = omega arith in
-    let zeroth : next + 0 ≡ next = omega arith in
+    let n = length mid in let special = special_bytes what in let next = place + n + special_size what in
+    let bytes = mid ++ (special ++ long_bytes cells) in let front : place + n - place ≡ n = omega arith in
+    let behind : next - place ≡ n + special_size what = omega arith in let zeroth : next + 0 ≡ next = omega arith in
     ap (λ k. plain (take k bytes) ++ Of what ∷ cells_of next (kept_from next cells) (drop (next - place) bytes)) front
     ∙ ap (λ xs. plain xs ++ Of what ∷ cells_of next (kept_from next cells) (drop (next - place) bytes))
-    (take_at mid (special ++ long_bytes cells) n refl)
-    ∙ ap (λ xs. plain mid ++ Of what ∷ cells_of next (kept_from next cells) xs)
+    (take_at mid (special ++ long_bytes cells) n refl) ∙ ap (λ xs. plain mid ++ Of what ∷ cells_of next (kept_from next cells) xs)
     (ap (λ k. drop k bytes) behind ∙ ap (drop (n + special_size what)) (sym (append_assoc mid special (long_bytes cells)))
     ∙ drop_at (mid ++ special) (long_bytes cells) (n + special_size what)
     (length-append mid special ∙ ap (λ k. n + k) (length-special what)))
@@ -59,15 +53,13 @@ told {state = state} {bytes = bytes} {front = front} {contents = contents} stand
     ∙ decoded contents.cells [] (state.start + 1) in
     let make : ℕ → List Cell → Bool → Contents = λ l cs f. record { locals = l; cells = cs; is_final = f } in
     ap (λ l. make l (cells_of (state.start + 1) state.kept (drop (state.start + 1) bytes)) state.is_final) locals
-    ∙ ap (λ cs. make contents.locals cs state.is_final) cells
-    ∙ ap (make contents.locals contents.cells) stands.is_final
+    ∙ ap (λ cs. make contents.locals cs state.is_final) cells ∙ ap (make contents.locals contents.cells) stands.is_final
 
 -- a routine with items keeps them
 pub holds : (contents : Contents) (old new : State) (old_bytes new_bytes front : List ℕ) → Stands new new_bytes front contents →
     new.start ≡ old.start → take old.start old_bytes ≡ front → new.limits ≡ old.limits → Holds contents old old_bytes new new_bytes
 holds contents old new old_bytes new_bytes front stands start before limits =
-    let is = told stands in
-    let same = told_front stands in
+    let is = told stands in let same = told_front stands in
     let P : List ℕ → Contents → Type 0 = λ f items. Stands new new_bytes f items in
     record {
       is = is;
@@ -125,8 +117,7 @@ pub back_stands : (state new : State) (bytes new_bytes front : List ℕ) (now ea
     → new.start ≡ state.start → new.labels ≡ at.labels → new.fixups ≡ at.fixups → new.is_final ≡ at.is_final → Stands new new_bytes front
     earlier
 back_stands state new bytes new_bytes front now earlier at place end stands were place_is end_is cut kept start labels fixups final =
-    let long = long_bytes earlier.cells in
-    let head = front ++ earlier.locals ∷ long in
+    let long = long_bytes earlier.cells in let head = front ++ earlier.locals ∷ long in
     let all : bytes ≡ head ++ long_bytes were.added =
     stands.bytes ∙ ap (λ l. front ++ l ∷ long_bytes now.cells) were.locals ∙ ap (λ cs. front ++ earlier.locals ∷ long_bytes cs) were.cells
     ∙ ap (λ xs. front ++ earlier.locals ∷ xs) (long-append earlier.cells were.added)

@@ -57,8 +57,7 @@ size_le long old (Special.Refers target) = omega arith
 -- the bytes once one more entry is written
 pub squeezed_step : (long places : Places) (from to i : ℕ) (kept : List Kept) (d : Kept) (xs added : List ℕ) → i < length kept
     → closed_special long places (get_or kept i d).place (to + ((get_or kept i d).place - from)) (get_or kept i d).what ≡ Some added
-    → squeezed long places from to (drop i kept) xs
-    ≡ squeezed long places ((get_or kept i d).place + special_size (get_or kept i d).what)
+    → squeezed long places from to (drop i kept) xs ≡ squeezed long places ((get_or kept i d).place + special_size (get_or kept i d).what)
     (to + ((get_or kept i d).place - from) + length added) (drop (i + 1) kept)
     (placed_bytes to from ((get_or kept i d).place - from) added xs)
 squeezed_step long places from to i kept d xs added within is =

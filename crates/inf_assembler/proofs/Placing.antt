@@ -16,10 +16,8 @@ written_more start i byte added xs ys e within room is =
     omega (arith, length-append (take start xs) (take i added), length-take start xs, length-take i added) in
     let zeroth : start + i - (start + i) ≡ 0 = omega arith in
     let next : start + i + 1 ≡ start + (i + 1) = omega arith in
-    ap (λ zs. set zs (start + i) byte) e
-    ∙ set-append_right front (drop (start + i) xs) (start + i) (start + i) byte long (omega arith)
-    ∙ ap (λ k. front ++ set (drop (start + i) xs) k byte) zeroth
-    ∙ ap (λ zs. front ++ set zs 0 byte) (drop_more xs (start + i) 0 room)
+    ap (λ zs. set zs (start + i) byte) e ∙ set-append_right front (drop (start + i) xs) (start + i) (start + i) byte long (omega arith)
+    ∙ ap (λ k. front ++ set (drop (start + i) xs) k byte) zeroth ∙ ap (λ zs. front ++ set zs 0 byte) (drop_more xs (start + i) 0 room)
     ∙ sym (append_assoc front (byte ∷ []) (drop (start + i + 1) xs))
     ∙ ap (λ zs. zs ++ drop (start + i + 1) xs) (append_assoc (take start xs) (take i added) (byte ∷ []))
     ∙ ap (λ b. take start xs ++ (take i added ++ b ∷ []) ++ drop (start + i + 1) xs) is
@@ -40,8 +38,7 @@ written_none start i added xs none = sym (take-append-drop start xs) ∙ ap (λ 
 pub placed_is : (to from n : ℕ) (added xs : List ℕ) → to ≤ from → from + n ≤ length xs →
     take (to + n) (moved to from n xs) ++ added ++ drop (to + n + length added) (moved to from n xs) ≡ placed_bytes to from n added xs
 placed_is to from n added xs before within =
-    let front = take to xs ++ take n (drop from xs) in
-    let long = length-front to from n xs before within in
+    let front = take to xs ++ take n (drop from xs) in let long = length-front to from n xs before within in
     let behind : drop (to + n + length added) (moved to from n xs) ≡ drop (to + n + length added) xs =
     sym (drop-drop (length added) (to + n) (moved to from n xs)) ∙ ap (drop (length added)) (drop_at front (drop (to + n) xs) (to + n) long)
     ∙ drop-drop (length added) (to + n) xs in
@@ -64,8 +61,7 @@ module _ (to from n : ℕ) (added xs : List ℕ) (before : to ≤ from) (within 
         let rest = drop (to + n + length added) xs in
         let long : length (take to xs) ≡ to = omega (arith, length-take to xs) in
         ap (take start) (append_assoc (take to xs ++ take n (drop from xs)) added rest ∙ append_assoc (take to xs) (take n (drop from xs))
-        (added ++ rest))
-        ∙ take-append-le start (take to xs) (take n (drop from xs) ++ (added ++ rest)) (omega (arith, long))
+        (added ++ rest)) ∙ take-append-le start (take to xs) (take n (drop from xs) ++ (added ++ rest)) (omega (arith, long))
         ∙ take-take start to xs behind
 
     -- the front of the bytes that were moved
@@ -76,11 +72,8 @@ module _ (to from n : ℕ) (added xs : List ℕ) (before : to ≤ from) (within 
     -- the bytes behind the place stay
     pub drop-placed : (place : ℕ) → to + n + length added ≤ place → drop place (placed_bytes to from n added xs) ≡ drop place xs
     drop-placed place behind =
-        let here = to + n + length added in
-        let more = place - here in
-        let sum : here + more ≡ place = omega arith in
-        ap (λ k. drop k (placed_bytes to from n added xs)) (sym sum)
-        ∙ sym (drop-drop more here (placed_bytes to from n added xs))
+        let here = to + n + length added in let more = place - here in let sum : here + more ≡ place = omega arith in
+        ap (λ k. drop k (placed_bytes to from n added xs)) (sym sum) ∙ sym (drop-drop more here (placed_bytes to from n added xs))
         ∙ ap (drop more) (drop_at (take to xs ++ take n (drop from xs) ++ added) (drop here xs) here length-placed_front)
         ∙ drop-drop more here xs ∙ ap (λ k. drop k xs) sum
 

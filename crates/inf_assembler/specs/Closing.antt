@@ -59,8 +59,7 @@ abbrev pub kept_fixups : Places → ℕ → List Kept → List Fixup
 kept_fixups long saved [] = []
 kept_fixups long saved (entry ∷ others) = fixup_at (entry.place - saved) entry.what ++ kept_fixups long (saved + saving long entry) others
 
--- Bytes where `n` of them from the place `from` on are written to the place `to`, which lies before, and `added` behind
--- them.
+-- Bytes where `n` of them from the place `from` on are written to the place `to`, which lies before, and `added` behind them.
 abbrev pub placed_bytes : ℕ → ℕ → ℕ → List ℕ → List ℕ → List ℕ
 placed_bytes to from n added bytes = take to bytes ++ take n (drop from bytes) ++ added ++ drop (to + n + length added) bytes
 
@@ -71,11 +70,9 @@ with_bytes next (Some bytes) = next bytes
 
 abbrev pub squeezed : Places → Places → ℕ → ℕ → List Kept → List ℕ → Option (List ℕ)
 squeezed long places from to [] bytes = Some (take to bytes ++ drop from bytes)
-squeezed long places from to (entry ∷ others) bytes =
-    with_bytes
+squeezed long places from to (entry ∷ others) bytes = with_bytes
     (λ added. squeezed long places (entry.place + special_size entry.what) (to + (entry.place - from) + length added) others
-    (placed_bytes to from (entry.place - from) added bytes))
-    (closed_special long places entry.place (to + (entry.place - from)) entry.what)
+    (placed_bytes to from (entry.place - from) added bytes)) (closed_special long places entry.place (to + (entry.place - from)) entry.what)
 
 -- Tells whether entries are in order from a place on, up to an end.
 abbrev pub AreInOrder : ℕ → List Kept → ℕ → Type 0

@@ -20,11 +20,9 @@ Places = ℕ → Option ℕ
 abbrev pub long_place : ℕ → List Cell → Places
 long_place place [] number = None
 long_place place ((Plain byte) ∷ cells) number = long_place (place + 1) cells number
-long_place place ((Of what) ∷ cells) number =
-    if marks number what then Some place else long_place (place + special_size what) cells number
+long_place place ((Of what) ∷ cells) number = if marks number what then Some place else long_place (place + special_size what) cells number
 
--- A branch is short where its offset is 2 to 63 with every branch long (section 4.7.3): the distance from its first byte to
--- its label.
+-- A branch is short where its offset is 2 to 63 with every branch long (section 4.7.3): the distance from its first byte to its label.
 abbrev pub is_near : ℕ → Option ℕ → Bool
 is_near place None = false
 is_near place (Some target) = nat_le (place + 2) target && nat_le target (place + 63)
@@ -93,8 +91,7 @@ abbrev pub closed_bytes : Places → Places → ℕ → ℕ → List Cell → Op
 closed_bytes long places old new [] = Some []
 closed_bytes long places old new ((Plain byte) ∷ cells) =
     with_some (λ rest. byte ∷ rest) (closed_bytes long places (old + 1) (new + 1) cells)
-closed_bytes long places old new ((Of what) ∷ cells) =
-    joined (closed_special long places old new what)
+closed_bytes long places old new ((Of what) ∷ cells) = joined (closed_special long places old new what)
     (closed_bytes long places (old + special_size what) (new + size_at long old what) cells)
 
 -- the reference of a special cell, with its place

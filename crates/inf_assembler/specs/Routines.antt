@@ -26,12 +26,11 @@ pub record Contents : Type 0 where
 
 -- the items of an open routine, by its state and the bytes of its area
 abbrev pub contents_of : State → List ℕ → Contents
-contents_of state bytes =
-    record {
-      locals = slice_index bytes state.start;
-      cells = cells_of (state.start + 1) state.kept (drop (state.start + 1) bytes);
-      is_final = state.is_final;
-    }
+contents_of state bytes = record {
+  locals = slice_index bytes state.start;
+  cells = cells_of (state.start + 1) state.kept (drop (state.start + 1) bytes);
+  is_final = state.is_final;
+}
 
 -- Tells whether an open routine has items `contents`, and its bytes follow `front`.
 pub record Stands (state : State) (area front : List ℕ) (contents : Contents) : Type 0 where
@@ -65,8 +64,7 @@ with_cells cells is_final contents = record contents { cells = contents.cells ++
 
 -- the first limit that more labels, bytes and references would pass
 abbrev pub full_by : ℕ → ℕ → ℕ → State → ℕ → Fixups → Option Limit
-full_by labels bytes fixups state len refs =
-    if nat_lt state.limits.labels (state.labels + labels) then Some Limit.Labels else
+full_by labels bytes fixups state len refs = if nat_lt state.limits.labels (state.labels + labels) then Some Limit.Labels else
     if nat_lt state.limits.code (len + bytes) then Some Limit.Code else
     if nat_lt refs.limit (length refs.list + state.fixups + fixups) then Some Limit.Refs else None
 
@@ -79,8 +77,7 @@ abbrev pub refusal : Option Limit → GrowFault
 refusal None = GrowFault.Memory
 refusal (Some setting) = GrowFault.Full setting
 
--- a moment of an open routine: its numbers of bytes, entries, labels and references, and whether control never ran past its
--- last item
+-- a moment of an open routine: its numbers of bytes, entries, labels and references, and whether control never ran past its last item
 pub record Moment : Type 0 where
   pub len : ℕ
   pub kept : ℕ
@@ -89,14 +86,13 @@ pub record Moment : Type 0 where
   pub is_final : Bool
 
 abbrev pub moment_of : Contents → Moment
-moment_of contents =
-    record {
-      len = 1 + length (long_bytes contents.cells);
-      kept = length (kept_from 0 contents.cells);
-      labels = label_count contents.cells;
-      fixups = fixup_count contents.cells;
-      is_final = contents.is_final;
-    }
+moment_of contents = record {
+  len = 1 + length (long_bytes contents.cells);
+  kept = length (kept_from 0 contents.cells);
+  labels = label_count contents.cells;
+  fixups = fixup_count contents.cells;
+  is_final = contents.is_final;
+}
 
 -- Tells whether the first items of a routine were all items at a moment.
 pub record Were (earlier : Contents) (at : Moment) (now : Contents) : Type 0 where
@@ -138,8 +134,7 @@ is_full true limit len = false
 is_full false limit len = nat_lt limit (len + 1)
 
 abbrev pub end_fault : Bool → Limits → ℕ → Fixups → ℕ → Option CloseFault
-end_fault is_final limits len refs fixups =
-    if is_full is_final limits.code len then Some (CloseFault.Full Limit.Code) else
+end_fault is_final limits len refs fixups = if is_full is_final limits.code len then Some (CloseFault.Full Limit.Code) else
     if nat_lt refs.limit (length refs.list + fixups) then Some (CloseFault.Full Limit.Refs) else None
 
 abbrev pub full_fault : ℕ → RoutineKind → Contents → Limits → Fixups → List ℕ → Option CloseFault
@@ -159,8 +154,7 @@ missing_fault next None = next
 missing_fault next (Some label) = Some (CloseFault.LabelMissing label)
 
 abbrev pub fault_of : ℕ → RoutineKind → Contents → Limits → Fixups → Option CloseFault
-fault_of start kind contents limits refs =
-    missing_fault
+fault_of start kind contents limits refs = missing_fault
     (twice_fault (body_fault (full_fault start kind contents limits refs) (body_bytes start contents)) (twice_behind [] contents.cells))
     (missing (long_places start contents) contents.cells)
 

@@ -175,8 +175,7 @@ fn branch_bytes(short: bool, sense: bool, offset: usize) -> ArrayVec<u8, 2>
     bytes
 }
 
-// Returns the bytes of a special cell in a closed routine, by its place with all branches long; `None` where an offset does
-// not fit.
+// Returns the bytes of a special cell in a closed routine, by its place with all branches long; `None` where an offset does not fit.
 fn closed_special(
     long: &[Option<usize>],
     places: &[Option<usize>],
@@ -236,8 +235,7 @@ fn place_bytes<A: Area>(area: &mut A, to: usize, from: usize, end: usize, added:
     }
 }
 
-// Moves the bytes of a routine together, from a place on, and writes its offsets. Returns `None` where an offset does not
-// fit.
+// Moves the bytes of a routine together, from a place on, and writes its offsets. Returns `None` where an offset does not fit.
 pub(crate) fn squeeze<A: Area>(
     area: &mut A,
     kept: &[Kept],
@@ -267,8 +265,7 @@ pub(crate) fn squeeze<A: Area>(
     Some(())
 }
 
-// Lists the references, with the places that they have where those branches are short that are short by a table of the long
-// places.
+// Lists the references, with the places that they have where those branches are short that are short by a table of the long places.
 pub(crate) fn list_fixups(
     refs: &mut Refs,
     kept: &[Kept],

@@ -23,7 +23,7 @@ pub enum RoutineKind {
 }
 
 /// The place and size of a closed routine.
-#[derive(Clone, Copy, Debug)]
+#[derive(Clone, Copy, Debug, PartialEq, Eq)]
 pub struct Closed {
     /// The place of the routine in the area.
     pub start: usize,
@@ -111,7 +111,7 @@ impl From<AllocError> for CloseFault {
 }
 
 /// A moment of an open routine, to which `Routine::back` leads.
-#[derive(Clone, Copy)]
+#[derive(Clone, Copy, Debug)]
 pub struct Mark {
     len: usize,
     kept: usize,
@@ -352,8 +352,7 @@ impl Routine {
         self.is_final = mark.is_final;
     }
 
-    /// Closes the routine: makes each branch short that fits, writes the offsets, and adds the fixups to the
-    /// list, each with its place.
+    /// Closes the routine: makes each branch short that fits, writes the offsets, and adds the fixups to the list, each with its place.
     ///
     /// Where control can run past the last item, `rtrue` follows it, or `rfalse` in an embedded routine. Returns the place
     /// and size of the routine. Refuses, in this order, a label that is missing, one that is marked twice, an offset that

@@ -70,8 +70,7 @@ attribute_finding None at = Some (wrong_kind (order at))
 attribute_finding (Some number) at = None
 
 abbrev pub attribute_read_by : Limits → Context → Place → ℕ → Option ℕ → Compilation → Compilation
-attribute_read_by limits context first at number w =
-    entry_told limits context first (attribute_finding number at)
+attribute_read_by limits context first at number w = entry_told limits context first (attribute_finding number at)
     (record w { output = attribute_set_some number (is_given w.unit.tokens at) w.output })
 
 abbrev pub attribute_read : Limits → Context → Place → Compilation → Compilation

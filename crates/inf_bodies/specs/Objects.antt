@@ -1,5 +1,5 @@
 -- Objects and classes: their headers. Designer's Manual, fourth edition, sections 3.1 to 3.8.
-use Rattle.std.specs.Prelude.{ℕ, ◌+◌, ◌-◌, ◌%◌, ◌==◌, nat_le, nat_lt, List, [], ◌∷◌, ◌++◌, length, codes, Bool, false, if◌then◌else◌}
+use Rattle.std.specs.Prelude.{ℕ, ◌+◌, ◌-◌, ◌%◌, nat_le, nat_lt, List, [], ◌∷◌, length, codes, Bool, false, if◌then◌else◌}
 use Rattle.std.specs.Prelude.{Option, Some, None, unwrap_or, Result, Ok, Err}
 use Rattle.std.specs.Str.{str_eq_ignore_ascii_case}
 use Rattle.inf_settings.specs.{Bounds.Limits, declared.setting.Setting.Setting}
@@ -9,7 +9,7 @@ use Rattle.inf_names.specs.{Spellings.Name, Symbols.found_in, declared.meanings.
 use Rattle.inf_output.specs.Output.{Code, Out, passed_table}
 use Rattle.inf_report.specs.{Messages.TooMany, declared.messages.FixedLimit.FixedLimit}
 use Rattle.inf_scanner.specs.{declared.tokens.Place.Place, declared.tokens.TokenKind.TokenKind}
-use Rattle.inf_unit.specs.{Messages.Diagnostic, Tokens.SourceToken}
+use Rattle.inf_unit.specs.{Tokens.SourceToken}
 use Rattle.inf_unit.specs.Units.{bytes_at, name_at, name_order, next_place, order}
 use Rattle.inf_compilation.specs.{Actions.Compilation, Actions.unit_ended, Context.Context, Findings.found_alone, Findings.many_finding}
 use Rattle.inf_tables.specs.{Objects.class_count, Objects.parent_of, declared.faults.Misfit.Misfit, declared.faults.WorldFault.WorldFault}
@@ -141,8 +141,7 @@ class_declared limits name number o = name_declared limits name (Meaning.Class (
 abbrev pub class_lost : Limits → Name → Code
 class_lost limits name o = class_declared limits name 0 (lost_begun o)
 
--- A class that the world refuses, since it would pass a setting, has a name all the same: that may pass a setting before that
--- one.
+-- A class that the world refuses, since it would pass a setting, has a name all the same: that may pass a setting before that one.
 abbrev pub class_refused : Limits → WorldFault → Name → Code
 class_refused limits f name o = class_declared limits name 0 (noted limits f o)
 

@@ -1,5 +1,5 @@
 -- The values of properties: words of the dictionary, expressions, and routines. Designer's Manual, fourth edition, sections 3.2 to 3.5.
-use Rattle.std.specs.Prelude.{ℕ, ◌+◌, ◌-◌, ◌==◌, List, [], ◌∷◌, length, slice_get, Bool, true, false, not, ◌&&◌, if◌then◌else◌, Option}
+use Rattle.std.specs.Prelude.{ℕ, ◌+◌, ◌-◌, ◌==◌, List, [], ◌∷◌, length, slice_get, Bool, true, false, ◌&&◌, if◌then◌else◌, Option}
 use Rattle.std.specs.Prelude.{Some, None, is_some}
 use Rattle.inf_settings.specs.Bounds.{Limits}
 use Rattle.inf_area.specs.{declared.targets.AreaName.AreaName, declared.targets.Target.Target, declared.targets.Value.Value}
@@ -79,8 +79,7 @@ abbrev pub text_finding_by : Limits → Bool → Option ℕ → List TextItem �
 text_finding_by limits is_wrong name items w = placed_finding limits name (text_value is_wrong items) (wrong_if is_wrong) w
 
 abbrev pub text_placed_by : Limits → Bool → Option ℕ → List TextItem → Compilation → Compilation
-text_placed_by limits is_wrong name items w =
-    word_used limits (text_finding_by limits is_wrong name items w) items
+text_placed_by limits is_wrong name items w = word_used limits (text_finding_by limits is_wrong name items w) items
     (placed limits name (text_value is_wrong items) (wrong_if is_wrong) w)
 
 abbrev pub text_finding : Limits → Option ℕ → List TextItem → Compilation → Option Finding

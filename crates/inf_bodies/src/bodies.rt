@@ -32,7 +32,6 @@ use std::alloc::AllocError;
 /// The number of the property `name`, whose values are words of the dictionary.
 const NAME: usize = 1;
 
-/// Returns the place of the last token.
 pub(crate) fn last_at(tokens: &UnitTokens) -> usize
     ensures { result ≡ last_at tokens.now }
 {
@@ -72,8 +71,7 @@ pub(crate) fn is_words(number: Option<usize>) -> bool
 
 // Functions for classes and attributes
 
-/// Returns the finding about the name of `class` at `at`: that the world refused the class by `fault`, or that there is
-/// no such class.
+/// Returns the finding about the name of `class` at `at`: that the world refused the class by `fault`, or that there is no such class.
 fn class_finding(class: Option<usize>, fault: Option<WorldFault>, at: usize) -> Option<Finding>
     ensures { result ≡ class_finding class fault at }
 {
@@ -117,8 +115,7 @@ fn set_attribute<B: Bounds>(
     }
 }
 
-/// Gives the open body attribute `number`, or takes it away unless `is_given`. Nothing happens where there is no such
-/// attribute.
+/// Gives the open body attribute `number`, or takes it away unless `is_given`. Nothing happens where there is no such attribute.
 fn set_some<B: Bounds>(
     number: Option<usize>,
     is_given: bool,
@@ -170,8 +167,7 @@ fn lose_property<B: Bounds>(name: &Option<Name>, out: &mut Output<B>) -> Result<
     Ok(())
 }
 
-/// Gives the open body property `number`, with its first value if it has one. Where that would pass a setting, it is
-/// passed.
+/// Gives the open body property `number`, with its first value if it has one. Where that would pass a setting, it is passed.
 fn give_property<B: Bounds>(
     number: usize,
     value: Option<Value>,
@@ -286,7 +282,6 @@ pub fn attribute_of_body<B: Bounds>(
 
 // The properties to which values go
 
-/// Returns the finding about property `number`, if its name at `at` has one, with the first value `value`.
 fn number_finding<B: Bounds>(
     compilation: &Compilation<B>,
     number: Option<usize>,
@@ -328,8 +323,6 @@ fn further_finding<B: Bounds>(compilation: &Compilation<B>, value: Value) -> Opt
     refused_finding(compilation.output.tables.world.value_fault(value), 0)
 }
 
-/// Returns the finding about the property to which `value` goes: the one whose `name` comes before it, or the one that
-/// was given last.
 pub(crate) fn place_finding<B: Bounds>(
     compilation: &Compilation<B>,
     name: Option<usize>,

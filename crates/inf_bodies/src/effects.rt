@@ -15,7 +15,6 @@ use inf_settings::setting::Setting;
 use inf_tables::{Parent, ShortName, WorldFault, WorldSetting};
 use std::alloc::AllocError;
 
-/// Returns the setting that bounds a count of the world.
 pub(crate) fn setting_of(setting: WorldSetting) -> Setting
     ensures { result ≡ setting_of setting }
 {

@@ -30,8 +30,7 @@ fn arrow_at(header: Header, at: usize) -> Header
     }
 }
 
-/// Adds the name at `at` to `header`: as the object's own, unless it has one already, or a text; else as that of its
-/// parent.
+/// Adds the name at `at` to `header`: as the object's own, unless it has one already, or a text; else as that of its parent.
 pub fn named_at(header: Header, at: usize) -> Header
     ensures { result ≡ named_at at header }
 {
@@ -89,7 +88,6 @@ pub fn object_header_of(tokens: &UnitTokens, word: usize) -> Header
     header
 }
 
-/// Returns the place of the word of a directive, before which a `#` may come.
 pub(crate) fn word_place(tokens: &UnitTokens) -> usize
     ensures { result ≡ word_place tokens.now }
 {

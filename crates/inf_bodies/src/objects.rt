@@ -28,12 +28,9 @@ use inf_tables::{Misfit, Parent, WorldFault};
 use inf_unit::unit::order;
 use std::alloc::AllocError;
 
-/// The greatest number of an object's classes: their list is a property like any other (Z-Machine Standard 1.1, section
-/// 12.4.2.1).
+/// The greatest number of an object's classes: their list is a property like any other (Z-Machine Standard 1.1, section 12.4.2.1).
 const MOST_CLASSES: usize = 32;
 
-/// Returns the finding about an entry of a body that the world refuses by `fault`; `name` is the order of its name. It
-/// is no error of the unit that a setting is passed.
 pub(crate) fn refused_finding(fault: Option<WorldFault>, name: u32) -> Option<Finding>
     ensures { result ≡ refused_finding fault name }
 {
@@ -79,8 +76,6 @@ pub(crate) fn class_of(found: Found<Place>) -> Option<usize>
 
 // The header of an object
 
-/// Returns the finding about a header's arrows, the first of which is at `at`, by `hung`, the object that the world has
-/// above them.
 fn hung_finding(hung: Result<usize, Misfit>, at: usize) -> Option<Finding>
     ensures { result ≡ hung_finding hung at }
 {
@@ -90,8 +85,6 @@ fn hung_finding(hung: Result<usize, Misfit>, at: usize) -> Option<Finding>
     }
 }
 
-/// Returns the finding about the name of a parent at `at`: unless it has a `number` it is no object's, and with an
-/// `arrow` there are arrows, too.
 fn parent_fit(number: Option<usize>, arrow: Option<usize>, at: usize) -> Option<Finding>
     ensures { result ≡ parent_fit number arrow at }
 {
@@ -142,8 +135,7 @@ pub fn class_header<B: Bounds>(
     class_with(compilation, context, first, name, declared)
 }
 
-/// Ends the header of a class with `name`, which begins at `first`; `declared` is the declaration as far as it is
-/// known.
+/// Ends the header of a class with `name`, which begins at `first`; `declared` is the declaration as far as it is known.
 fn class_with<B: Bounds>(
     compilation: &mut Compilation<B>,
     context: &Context<'_>,
@@ -188,7 +180,6 @@ fn open_class<B: Bounds>(
 
 // Functions for objects
 
-/// Returns the number of the source's class that the word of a header names, if it names one.
 fn class_of_word<B: Bounds>(compilation: &Compilation<B>) -> Option<usize>
     ensures { result ≡ class_of_word (work compilation.now) }
 {
@@ -236,7 +227,6 @@ fn parent_finding<B: Bounds>(compilation: &Compilation<B>, header: Header) -> Op
     )
 }
 
-/// Returns the finding about the class that `header` names, and about the place in the tree where it puts its object.
 fn headed_finding<B: Bounds>(compilation: &Compilation<B>, header: Header) -> Option<Finding>
     ensures { result ≡ headed_finding header (work compilation.now) }
 {
@@ -294,8 +284,7 @@ fn named_known<B: Bounds>(
     }
 }
 
-/// Looks for the name of an object with `header`, if it has a `name`, and returns the declaration as far as it is
-/// known.
+/// Looks for the name of an object with `header`, if it has a `name`, and returns the declaration as far as it is known.
 fn object_known<B: Bounds>(
     compilation: &Compilation<B>,
     context: &Context<'_>,

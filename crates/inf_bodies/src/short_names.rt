@@ -33,8 +33,7 @@ pub(crate) fn text_in(
     }
 }
 
-/// Makes a short name of these characters, which is packed as the texts of the story are; an empty
-/// one where there are none.
+/// Makes a short name of these characters, which is packed as the texts of the story are; an empty one where there are none.
 pub(crate) fn pack_name<B: Bounds>(
     alloc: Global,
     text: Option<Text>,
@@ -60,8 +59,7 @@ fn in_brackets(alloc: Global, name: &[u8]) -> Result<Vec<u8>, AllocError>
     Ok(bytes)
 }
 
-/// Returns the characters of the short name of an object or a class without a text for it: its name,
-/// in round brackets.
+/// Returns the characters of the short name of an object or a class without a text for it: its name, in round brackets.
 pub(crate) fn bracketed(
     alloc: Global,
     set: CharSet,

@@ -84,7 +84,6 @@ fn text_value(has_variables: bool, text: &Text) -> Value
 
 // Functions for routines
 
-/// Returns the place of the last bracket: `at`, if that is one, or `bracket`.
 fn bracket_step(bracket: usize, at: usize, kind: Option<TokenKind>) -> usize
     ensures { result ≡ bracket_step at kind bracket }
 {
@@ -106,8 +105,6 @@ fn bracket_in(tokens: &UnitTokens) -> usize
     bracket
 }
 
-/// Returns the limit that a routine as a value passes, where one is passed: that of locals if `are_locals`, or else
-/// that of values of a property.
 fn many_by(are_locals: bool) -> FixedLimit
     ensures { result ≡ many_by are_locals }
 {
@@ -235,8 +232,7 @@ fn place_text<B: Bounds>(
 
 // Functions for expressions
 
-/// Puts the value of the unit's expression, with which nothing is wrong, into a property, and returns the finding about
-/// it.
+/// Puts the value of the unit's expression, with which nothing is wrong, into a property, and returns the finding about it.
 fn place_settled<B: Bounds>(
     compilation: &mut Compilation<B>,
     context: &Context<'_>,
@@ -305,8 +301,7 @@ fn place_expression<B: Bounds>(
     place_with(compilation, context, name, judged, looked)
 }
 
-/// Puts a value into the property whose name comes before it, or into the one that was given last, and returns the
-/// finding about it.
+/// Puts a value into the property whose name comes before it, or into the one that was given last, and returns the finding about it.
 fn place_value<B: Bounds>(
     compilation: &mut Compilation<B>,
     context: &Context<'_>,
@@ -389,8 +384,7 @@ fn begin_embedded<B: Bounds>(
     open_embedded(compilation, context, first, headed, found)
 }
 
-/// Returns the findings about a routine as a value of the property whose `name` comes before it, if one does, with the
-/// locals of `headed`.
+/// Returns the findings about a routine as a value of the property whose `name` comes before it, if one does, with the locals of `headed`.
 fn found_embedded<B: Bounds>(
     compilation: &Compilation<B>,
     name: Option<usize>,

@@ -74,8 +74,7 @@ module _ {R M B S T : Type 0} {A C A' C' : Type 0} (f : Files R) (m : Sink M) (w
     fault = subst (λ (a : Result T UnitFault). HasCause f m was is old new before after a) (sym e) c.fault;
     adds = subst (λ (a : Result T UnitFault). Adds m old new a) (sym e) c.adds;
     again = λ other o.
-        let x = c.again other o in
-        (e ∙ ap (λ (g : UnitFault). Err g) (ap error_of x.0), x.1);
+        let x = c.again other o in (e ∙ ap (λ (g : UnitFault). Err g) (ap error_of x.0), x.1);
   }
 
   -- Behind an answer of a call there is another, with which the session goes on.

@@ -26,8 +26,7 @@ pub added_is : (before now : Routines) (start refs : ℕ) (r : Closed) → start
     → r ≡ added before now
 unfolding stands
 added_is before now start refs r a b h =
-    let place = place_behind before.finished in
-    let behind = place_behind now.finished in
+    let place = place_behind before.finished in let behind = place_behind now.finished in
     let later = later_count now.finished in
     h ∙ ap (λ n. stands n (behind - n) (4 + later - refs)) a ∙ ap (λ n. stands place (behind - place) (4 + later - n)) b
     ∙ ap (λ n. stands place (behind - place) n) (cancel later (later_count before.finished))

@@ -62,8 +62,7 @@ pub caused_here : {R M B T : Type 0} (f : Files R) (m : Sink M) (was is : R) (ol
 caused_here f m was is old between new before mid after answer more c =
     if_lost answer (λ fault. Caused fault (λ name. ⊥) (Rose (m.failures between) (m.failures new)))
     (λ fault. Caused fault (λ name. IsUnreadable f was is before.open_files after.open_files) (Rose (m.failures old) (m.failures new)))
-    (λ fault. caused_more fault (λ name never. absurd never)
-    (rose_earlier (m.failures old) (m.failures between) (m.failures new) more)) c
+    (λ fault. caused_more fault (λ name never. absurd never) (rose_earlier (m.failures old) (m.failures between) (m.failures new) more)) c
 
 pub adds_then : {M T : Type 0} (m : Sink M) (old between new : M) (answer : Result T UnitFault) → Appends m old between →
     m.failures between ≡ m.failures old → Adds m between new answer → Adds m old new answer
@@ -76,19 +75,6 @@ adds_then m old between new answer a quiet b = (
         (λ fault. unless_more fault (m.failures new ≡ m.failures between) (m.failures new ≡ m.failures old) (λ e. e ∙ quiet)) b.1.1,
   ),
 )
-
-pub stays_failed : {R B S T : Type 0} (f : Files R) (was is : R) (before after : Session B) (fault : UnitFault) (a : Result S UnitFault)
-    (b : Result T UnitFault) → a ≡ Err fault → b ≡ Err fault → Stays f was is before after a → Stays f was is before after b
-stays_failed f was is before after fault a b x y s =
-    let same : is_lost b ≡ is_lost a = ap is_lost y ∙ sym (ap is_lost x) in
-    record {
-      went = s.went;
-      is_open = s.is_open;
-      set = s.set;
-      setup = s.setup;
-      goes = λ here. s.goes (sym same ∙ here);
-      fits = λ here. s.fits (sym same ∙ here);
-    }
 
 -- the end of a unit leaves the files and the choices alone
 pub stays_here : {R B S T : Type 0} (f : Files R) (was is : R) (before mid after : Session B) (v : S) (answer : Result T UnitFault) →
@@ -106,8 +92,7 @@ stays_here f was is before mid after v answer s files setup = record {
 module _ {R M B : Type 0} (f : Files R) (m : Sink M) (limits : Limits) (was is : R) (old between new : M) (before mid after : Session
     B) where
   pub reads_failed : {S T : Type 0} (begin : State → State) (call : Sources → Choices → ℕ → State → Answered S) (next : S → State →
-      Answered T)
-      (fault : UnitFault) → Reads f m limits begin call was is old new before after (Err fault)
+      Answered T) (fault : UnitFault) → Reads f m limits begin call was is old new before after (Err fault)
       → Reads f m limits begin (λ sources o turns s. and_then (call sources o turns s) next) was is old new before after (Err fault)
   reads_failed begin call next fault r = λ going honest start nested kept.
       let x = r going honest start nested kept in
@@ -121,8 +106,7 @@ module _ {R M B : Type 0} (f : Files R) (m : Sink M) (limits : Limits) (was is :
       )
 
   pub answers_failed : {S T : Type 0} (begin : State → State) (call : Sources → Choices → ℕ → State → Answered S)
-      (next : Choices → S → State → Answered T) (fault : UnitFault)
-      → Reads f m limits begin call was is old new before after (Err fault)
+      (next : Choices → S → State → Answered T) (fault : UnitFault) → Reads f m limits begin call was is old new before after (Err fault)
       → Answers f m (λ sources o turns s. and_then (call sources o turns s) (next o)) was is old new before after (Err fault)
   answers_failed begin call next fault r = λ going honest start nested kept.
       let x = r going honest start nested kept in
@@ -137,8 +121,7 @@ module _ {R M B : Type 0} (f : Files R) (m : Sink M) (limits : Limits) (was is :
       → Reads f m limits begin call was is old between before mid (Ok v) → Ends m (next (chosen mid.setup) v) between new mid after answer
       → Answers f m (λ sources o turns s. and_then (call sources o turns s) (next o)) was is old new before after answer
   answers_then begin call next v answer setup r e = λ going honest start nested kept.
-      let x = r going honest start nested refl in
-      let o = chosen before.setup in
+      let x = r going honest start nested refl in let o = chosen before.setup in
       let ends : Ends m (next o v) between new mid after answer =
       subst (λ (s : Setup). Ends m (next (chosen s) v) between new mid after answer) setup e in (
         x.0,
@@ -159,8 +142,7 @@ module _ {R M B : Type 0} (f : Files R) (m : Sink M) (limits : Limits) (was is :
       → EndsCut m (next (chosen mid.setup) v) between new mid answer → IfLost answer (λ fault. Caused fault (λ name. ⊥) Q)
       → Fails f m limits begin (λ sources o turns s. and_then (call sources o turns s) (next o)) was is old new before after answer
   fails_then begin call next v answer Q setup r e cause = λ going honest start nested.
-      let x = r going honest start nested refl in
-      let o = chosen before.setup in
+      let x = r going honest start nested refl in let o = chosen before.setup in
       let now = state (f.sources was) start (f.openings is) mid in
       let cuts : EndsCut m (next o v) between new mid answer =
       subst (λ (s : Setup). EndsCut m (next (chosen s) v) between new mid answer) setup e in
@@ -204,8 +186,7 @@ module _ {R M B : Type 0} (f : Files R) (m : Sink M) (limits : Limits) (was is :
       → Reads f m limits begin call was is old new (record before { progress = p }) after answer
       → Reads f m limits (λ s. begin (first s)) (λ sources o turns s. call sources o turns (first s)) was is old new before after answer
   reads_from p begin first call answer e h r = λ going honest start nested kept.
-      let x = r (e going) honest start nested kept in
-      let o = chosen before.setup in
+      let x = r (e going) honest start nested kept in let o = chosen before.setup in
       let is_first = h (f.sources was) start (f.openings was) in (
         x.0,
         (
@@ -229,17 +210,14 @@ module _ {R M B : Type 0} (f : Files R) (m : Sink M) (limits : Limits) (was is :
       → ReadFails f m limits begin was is old new (record before { progress = p }) after answer
       → ReadFails f m limits (λ s. begin (first s)) was is old new before after answer
   fails_from p begin first answer e h r = λ going honest start nested.
-      let o = chosen before.setup in
-      let sources = f.sources was in
-      let is_first = h sources start (f.openings was) in
+      let o = chosen before.setup in let sources = f.sources was in let is_first = h sources start (f.openings was) in
       if_lost answer _ _ (λ fault x. record {
         turns = x.turns;
         cut = record {
           front = x.cut.front;
           takes = x.cut.takes;
           begins = λ told. subst (λ (s : State). IsFront (told ++ x.cut.front) (run limits sources o x.turns (begin s)).told) (is_first
-              told)
-              (x.cut.begins told);
+              told) (x.cut.begins told);
         };
         others = x.others;
         opened = λ told. x.opened told ∙ ap (λ s. (run limits sources o x.others (begin s)).nesting.openings) (is_first told);
@@ -261,8 +239,7 @@ module _ {R M B : Type 0} (f : Files R) (m : Sink M) (limits : Limits) (was is :
       → ((s : State) → (begin s).told ≡ s.told) → ((s : State) → (begin s).nesting ≡ s.nesting)
       → IfLost answer (λ fault. fault ≡ Fault.Memory) → ReadFails f m limits begin was is old new before after answer
   fails_at_once begin answer quiet same told_same nesting_same memory = λ going honest start nested.
-      let sources = f.sources was in
-      let o = chosen before.setup in
+      let sources = f.sources was in let o = chosen before.setup in
       let first = state sources start (f.openings was) before in
       let Unread : Fault → Type 0 = λ fault. IfRead fault (λ name. GivenUp limits (Rose (f.faults was) (f.faults is)) sources o
       (λ told. begin (first told)) (m.taken old) (m.taken new) start (f.openings is) after.open_files name) in
@@ -291,8 +268,7 @@ done_if (Err fault) P p = p
 module _ {R M B : Type 0} (f : Files R) (m : Sink M) (limits : Limits) (was is : R) (old new : M) (before after : Session B)
     (answer : Result (Option Simple) UnitFault) (result : Result ⊤ UnitFault) (is_done : result ≡ done answer) where
   done_answers : (call : Sources → Choices → ℕ → State → Answered (Option Simple)) → Answers f m call was is old new before after answer
-      → Answers f m (λ sources o turns s. ((call sources o turns s).0, done (call sources o turns s).1)) was is old new before after
-      result
+      → Answers f m (λ sources o turns s. ((call sources o turns s).0, done (call sources o turns s).1)) was is old new before after result
   done_answers call r = λ going honest start nested kept.
       let x = r going honest start nested (sym (done_lost answer) ∙ ap is_lost (sym is_done) ∙ kept) in (
         x.0,
@@ -312,8 +288,7 @@ module _ {R M B : Type 0} (f : Files R) (m : Sink M) (limits : Limits) (was is :
       let both : Sources → Choices → ℕ → State → Answered ⊤ =
       λ sources o turns s. ((call sources o turns s).0, done (call sources o turns s).1) in
       subst (λ (a : Result ⊤ UnitFault). Fails f m limits begin both was is old new before after a) (sym is_done)
-      (λ going honest start nested.
-      done_if answer _ (if_lost answer _ _ (λ fault x. elim x [
+      (λ going honest start nested. done_if answer _ (if_lost answer _ _ (λ fault x. elim x [
         | inl y ↦ inl y
         | inr y ↦ inr (record { turns = y.turns; cut = y.cut; opened = y.opened; unread = y.unread })
       ]) (r going honest start nested)))

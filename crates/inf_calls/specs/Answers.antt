@@ -54,8 +54,7 @@ Ends m call old new before after answer =
     (state sources start now after) a (m.taken old) (m.taken new))
 
 abbrev pub EndsCut : {M B T : Type 0} → Sink M → (State → Answered T) → M → M → Session B → Result T UnitFault → Type 0
-EndsCut m call old new before answer =
-    (sources : Sources) → (start now : Openings) → IfLost answer (λ fault.
+EndsCut m call old new before answer = (sources : Sources) → (start now : Openings) → IfLost answer (λ fault.
     CutsShort (λ s. (call s).0) (state sources start now before) (m.taken old) (m.taken new))
 
 -- A call of a session, with its reader and its sink before and behind it, leads to its answer, with an honest reader.
@@ -74,21 +73,18 @@ Reads f m limits begin call was is old new before after answer =
     × (Calls (call (f.sources was) (chosen before.setup) turns) (state (f.sources was) start (f.openings was) before)
     (state (f.sources was) start (f.openings is) after) a (m.taken old) (m.taken new)
     × Writes (λ s. run limits (f.sources was) (chosen before.setup) turns (begin s))
-    (state (f.sources was) start (f.openings was) before) (state (f.sources was) start (f.openings is) after) (m.taken old) (m.taken
-    new))))
+    (state (f.sources was) start (f.openings was) before) (state (f.sources was) start (f.openings is) after) (m.taken old) (m.taken new))))
 
 -- Where a session has failed in the reading of a part: the lines that were written are no more than a front of those that some turns write;
 -- the sources that have been opened are those that these turns open; and a file is named at which these turns stop. Reading begins as
 -- `begin` says.
 pub record ReadFailed {M : Type 0} (m : Sink M) (failed : Type 0) (limits : Limits) (sources : Sources) (o : Choices) (begin : State →
-    State)
-    (was : List ℕ → State) (old new : M) (start now : Openings) (files : Open) (fault : Fault) : Type 0 where
+    State) (was : List ℕ → State) (old new : M) (start now : Openings) (files : Open) (fault : Fault) : Type 0 where
   pub turns : ℕ
   pub cut : CutsShort (λ s. run limits sources o turns (begin s)) was (m.taken old) (m.taken new)
   pub others : ℕ
   pub opened : OpensAll (λ s. run limits sources o others (begin s)) was (opened_since start now)
-  pub unread : IfRead fault (λ name. GivenUp limits failed sources o (λ told. begin (was told)) (m.taken old) (m.taken new) start now
-      files
+  pub unread : IfRead fault (λ name. GivenUp limits failed sources o (λ told. begin (was told)) (m.taken old) (m.taken new) start now files
       name)
 
 abbrev pub ReadFails : {R M B T : Type 0} → Files R → Sink M → Limits → (State → State) → R → R → M → M → Session B → Session B →
@@ -118,8 +114,7 @@ Fails f m limits begin call was is old new before after answer =
 
 -- The answer where no text can be read: behind a fatal message, and behind the end of the main source.
 abbrev pub refusal : {B : Type 0} → Session B → Result ⊤ UnitFault
-refusal s =
-    if is_fatal s then Err UnitFault.Fatal else if is_mode_ended s.progress.reader.mode then Err UnitFault.Syntax else Ok tt
+refusal s = if is_fatal s then Err UnitFault.Fatal else if is_mode_ended s.progress.reader.mode then Err UnitFault.Syntax else Ok tt
 
 -- A call opens and closes just the files that are open now in place of those that were, with any reader. Unless the session has failed, it
 -- goes on.
@@ -139,8 +134,7 @@ HasCause f m was is old new before after answer =
 
 -- A call only adds to what was written, and hides no failure to write it.
 abbrev pub Adds : {M T : Type 0} → Sink M → M → M → Result T UnitFault → Type 0
-Adds m old new answer =
-    Appends m old new × (IfAnswered answer (λ a. m.failures new ≡ m.failures old)
+Adds m old new answer = Appends m old new × (IfAnswered answer (λ a. m.failures new ≡ m.failures old)
     × IfLost answer (λ fault. UnlessMessages fault (m.failures new ≡ m.failures old)))
 
 -- A call with its reader and its sink before and behind it. With an honest reader it leads to its answer as `leads` says, and where the session
@@ -151,8 +145,7 @@ pub record Called {R M B T : Type 0} (leads fails : Type 0) (f : Files R) (m : S
   pub lost : fails
   pub fault : HasCause f m was is old new before after answer
   pub adds : Adds m old new answer
-  pub again : (fault : UnitFault) → refusal before ≡ Err fault
-      → (answer ≡ Err fault) × ((after ≡ before) × ((is ≡ was) × (new ≡ old)))
+  pub again : (fault : UnitFault) → refusal before ≡ Err fault → (answer ≡ Err fault) × ((after ≡ before) × ((is ≡ was) × (new ≡ old)))
 
 -- A call that reads a part: `read` tells its answer by the turns of the part, before which `begin` puts a rule on the machine.
 abbrev pub ReadsPart : {R M B T : Type 0} → Files R → Sink M → Limits → (State → State) → (Sources → Choices → ℕ → State → Answered T) → R →

@@ -55,8 +55,7 @@ begun_with_header s = begun_with_rule alone_header (record s { work = piece_begu
 
 -- The answer behind a part, before which a number of errors was told: whether there are more.
 abbrev pub told_more : ℕ → State → Result Bool UnitFault
-told_more errors s =
-    if s.work.report.counts.is_over then Err UnitFault.Fatal else Ok (nat_lt errors s.work.report.counts.errors)
+told_more errors s = if s.work.report.counts.is_over then Err UnitFault.Fatal else Ok (nat_lt errors s.work.report.counts.errors)
 
 -- At most `turns` turns, up to the end of a part.
 abbrev pub part_read : Limits → Sources → Choices → ℕ → State → Answered Bool

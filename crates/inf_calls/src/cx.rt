@@ -13,7 +13,7 @@ pub struct Cx<'a, B: Bounds> {
 }
 
 /// The use that is made of the value of an expression.
-#[derive(Clone, Copy)]
+#[derive(Clone, Copy, Debug)]
 pub enum Want {
     /// The answer is used for nothing.
     Nothing,
@@ -31,7 +31,7 @@ pub struct Branch {
 }
 
 /// The place of a routine in the code, the number of its bytes with those that fill it up, and the number of its references.
-#[derive(Clone, Copy, Debug)]
+#[derive(Clone, Copy, Debug, PartialEq, Eq)]
 pub struct Closed {
     pub start: usize,
     pub len: usize,

@@ -7,12 +7,11 @@ use Rattle.inf_characters.specs.{Characters.accented, Characters.zscii_of_unicod
 
 -- one more digit, behind a number that the limit left as it was or cut
 pub capped-more : (base high digit : ℕ) → min (min high 65536 * base + digit) 65536 ≡ min (base * high + digit) 65536
-capped-more base high digit = go base (cases_lt high 65536)
-  where
-    go : (base : ℕ) → (high < 65536) ⊎ (65536 ≤ high) → min (min high 65536 * base + digit) 65536 ≡ min (base * high + digit) 65536
-    go base (inl lt) = let e : min high 65536 ≡ high = omega arith in rw e (omega arith)
-    go zero (inr le) = let e : min high 65536 ≡ 65536 = omega arith in rw e (omega arith)
-    go (suc base) (inr le) = let e : min high 65536 ≡ 65536 = omega arith in rw e (omega arith)
+capped-more base high digit = go base (cases_lt high 65536) where
+  go : (base : ℕ) → (high < 65536) ⊎ (65536 ≤ high) → min (min high 65536 * base + digit) 65536 ≡ min (base * high + digit) 65536
+  go base (inl lt) = let e : min high 65536 ≡ high = omega arith in rw e (omega arith)
+  go zero (inr le) = let e : min high 65536 ≡ 65536 = omega arith in rw e (omega arith)
+  go (suc base) (inr le) = let e : min high 65536 ≡ 65536 = omega arith in rw e (omega arith)
 
 -- a byte that is a digit belongs to the number
 pub number_from-more : (base count high b d : ℕ) (bytes : List ℕ) → digit_of base b ≡ Some d →
@@ -42,16 +41,14 @@ past_ascii n le = grind (arith, nat_tests)
 -- a number past the limit has no character
 no_zscii : (n : ℕ) → 65536 ≤ n → zscii_of_unicode n ≡ None
 unfolding zscii_of_unicode
-no_zscii n le = go (leb 32 n)
-  where
-    go : (b : Bool) → cond (b && leb n 126) (Some n) (option_map (λ place. 155 + place) (position_from (λ y. eqb y n) 0 accented)) ≡ None
-    go true = rw (past_ascii n le, past_accented n le) refl
-    go false = rw (past_accented n le) refl
+no_zscii n le = go (leb 32 n) where
+  go : (b : Bool) → cond (b && leb n 126) (Some n) (option_map (λ place. 155 + place) (position_from (λ y. eqb y n) 0 accented)) ≡ None
+  go true = rw (past_ascii n le, past_accented n le) refl
+  go false = rw (past_accented n le) refl
 
 -- the limit has no character, nor has a number past it
 pub zscii_of_capped : (n : ℕ) → zscii_of_unicode (min n 65536) ≡ zscii_of_unicode n
-zscii_of_capped n = go (cases_lt n 65536)
-  where
-    go : (n < 65536) ⊎ (65536 ≤ n) → zscii_of_unicode (min n 65536) ≡ zscii_of_unicode n
-    go (inl lt) = let e : min n 65536 ≡ n = omega arith in ap zscii_of_unicode e
-    go (inr le) = no_zscii (min n 65536) (omega arith) ∙ sym (no_zscii n le)
+zscii_of_capped n = go (cases_lt n 65536) where
+  go : (n < 65536) ⊎ (65536 ≤ n) → zscii_of_unicode (min n 65536) ≡ zscii_of_unicode n
+  go (inl lt) = let e : min n 65536 ≡ n = omega arith in ap zscii_of_unicode e
+  go (inr le) = no_zscii (min n 65536) (omega arith) ∙ sym (no_zscii n le)

@@ -17,28 +17,25 @@ after_digit base n high bytes (Some d) = number_from base (n + 1) (base * high +
 -- digits are only added
 number_from-grows : (base n high : ℕ) (bytes : List ℕ) → n ≤ (number_from base n high bytes).0
 number_from-grows base n high [] = omega arith
-number_from-grows base n high (b ∷ bytes) = go (λ d. number_from-grows base (n + 1) (base * high + d) bytes) (digit_of base b)
-  where
-    go : ((d : ℕ) → n + 1 ≤ (number_from base (n + 1) (base * high + d) bytes).0) → (o : Option ℕ) → n ≤ (after_digit base n high bytes o).0
-    go more None = omega arith
-    go more (Some d) = omega (arith, more d)
+number_from-grows base n high (b ∷ bytes) = go (λ d. number_from-grows base (n + 1) (base * high + d) bytes) (digit_of base b) where
+  go : ((d : ℕ) → n + 1 ≤ (number_from base (n + 1) (base * high + d) bytes).0) → (o : Option ℕ) → n ≤ (after_digit base n high bytes o).0
+  go more None = omega arith
+  go more (Some d) = omega (arith, more d)
 
 -- a number that ends within the first bytes is the one that they write
 number_from-cut : (base n high : ℕ) (xs ys : List ℕ) → (number_from base n high (xs ++ ys)).0 ≤ n + length xs →
     number_from base n high (xs ++ ys) ≡ number_from base n high xs
 number_from-cut base n high [] [] le = refl
-number_from-cut base n high [] (y ∷ ys) le = go (digit_of base y) le
-  where
-    go : (o : Option ℕ) → (after_digit base n high ys o).0 ≤ n + 0 → after_digit base n high ys o ≡ (n, high)
-    go None le = refl
-    go (Some d) le = absurd (omega (arith, number_from-grows base (n + 1) (base * high + d) ys))
-number_from-cut base n high (x ∷ xs) ys le = go (λ d. number_from-cut base (n + 1) (base * high + d) xs ys) (digit_of base x) le
-  where
-    go : ((d : ℕ) → (number_from base (n + 1) (base * high + d) (xs ++ ys)).0 ≤ n + 1 + length xs → number_from base (n + 1)
-        (base * high + d) (xs ++ ys) ≡ number_from base (n + 1) (base * high + d) xs) → (o : Option ℕ) →
-        (after_digit base n high (xs ++ ys) o).0 ≤ n + length (x ∷ xs) → after_digit base n high (xs ++ ys) o ≡ after_digit base n high xs o
-    go more None le = refl
-    go more (Some d) le = more d (omega arith)
+number_from-cut base n high [] (y ∷ ys) le = go (digit_of base y) le where
+  go : (o : Option ℕ) → (after_digit base n high ys o).0 ≤ n + 0 → after_digit base n high ys o ≡ (n, high)
+  go None le = refl
+  go (Some d) le = absurd (omega (arith, number_from-grows base (n + 1) (base * high + d) ys))
+number_from-cut base n high (x ∷ xs) ys le = go (λ d. number_from-cut base (n + 1) (base * high + d) xs ys) (digit_of base x) le where
+  go : ((d : ℕ) → (number_from base (n + 1) (base * high + d) (xs ++ ys)).0 ≤ n + 1 + length xs → number_from base (n + 1)
+      (base * high + d) (xs ++ ys) ≡ number_from base (n + 1) (base * high + d) xs) → (o : Option ℕ) →
+      (after_digit base n high (xs ++ ys) o).0 ≤ n + length (x ∷ xs) → after_digit base n high (xs ++ ys) o ≡ after_digit base n high xs o
+  go more None le = refl
+  go more (Some d) le = more d (omega arith)
 
 -- a closing brace within the first bytes
 closes-cut : (n : ℕ) (xs ys : List ℕ) → n < length xs → closes (drop n (xs ++ ys)) ≡ closes (drop n xs)
@@ -50,12 +47,11 @@ closes-cut (suc n) (x ∷ xs) ys lt = closes-cut n xs ys (omega arith)
 prefix_len-cut : (p : ℕ → Bool) (xs ys : List ℕ) → prefix_len p (xs ++ ys) ≤ length xs → prefix_len p (xs ++ ys) ≡ prefix_len p xs
 prefix_len-cut p [] [] le = refl
 prefix_len-cut p [] (y ∷ ys) le = omega arith
-prefix_len-cut p (x ∷ xs) ys le = go (prefix_len-cut p xs ys) (p x) le
-  where
-    go : (prefix_len p (xs ++ ys) ≤ length xs → prefix_len p (xs ++ ys) ≡ prefix_len p xs) → (t : Bool) →
-        cond t (1 + prefix_len p (xs ++ ys)) 0 ≤ length (x ∷ xs) → cond t (1 + prefix_len p (xs ++ ys)) 0 ≡ cond t (1 + prefix_len p xs) 0
-    go more true le = ap (λ (n : ℕ). 1 + n) (more (omega arith))
-    go more false le = refl
+prefix_len-cut p (x ∷ xs) ys le = go (prefix_len-cut p xs ys) (p x) le where
+  go : (prefix_len p (xs ++ ys) ≤ length xs → prefix_len p (xs ++ ys) ≡ prefix_len p xs) → (t : Bool) →
+      cond t (1 + prefix_len p (xs ++ ys)) 0 ≤ length (x ∷ xs) → cond t (1 + prefix_len p (xs ++ ys)) 0 ≡ cond t (1 + prefix_len p xs) 0
+  go more true le = ap (λ (n : ℕ). 1 + n) (more (omega arith))
+  go more false le = refl
 
 -- the piece of a reading, if it gives one, has `k` bytes behind its first
 Behind : Piece → ℕ → Result Piece TextFault → Type 0
@@ -89,24 +85,21 @@ variable_piece-behind : (p : Piece) (m : Mode) (tens : ℕ) (bytes : List ℕ) �
 variable_piece-behind p Mode.Quote tens bytes = behind_err p 2 _
 variable_piece-behind p Mode.Abbreviation tens bytes = behind_err p 2 _
 variable_piece-behind p Mode.Text tens [] = behind_err p 2 _
-variable_piece-behind p Mode.Text tens (b ∷ bytes) = go (digit_of 10 b)
-  where
-    go : (o : Option ℕ) → Behind p 2 (elim o as (λ _. Result Piece TextFault) [
-      | None ↦ Err TextFault.UnknownEscape
-      | Some units ↦ cond
-          (ltb (10 * tens + units) 32) (Ok (one (TextItem.Variable (10 * tens + units)) 2)) (Err TextFault.BadCode)
-    ])
-    go None = behind_err p 2 _
-    go (Some units) = behind_both p 2 (ltb (10 * tens + units) 32) _ _ (behind_ok p _ 2 refl) (behind_err p 2 _)
+variable_piece-behind p Mode.Text tens (b ∷ bytes) = go (digit_of 10 b) where
+  go : (o : Option ℕ) → Behind p 2 (elim o as (λ _. Result Piece TextFault) [
+    | None ↦ Err TextFault.UnknownEscape
+    | Some units ↦ cond (ltb (10 * tens + units) 32) (Ok (one (TextItem.Variable (10 * tens + units)) 2)) (Err TextFault.BadCode)
+  ])
+  go None = behind_err p 2 _
+  go (Some units) = behind_both p 2 (ltb (10 * tens + units) 32) _ _ (behind_ok p _ 2 refl) (behind_err p 2 _)
 
 accent_piece-behind : (p : Piece) (a : ℕ) (bytes : List ℕ) → Behind p 2 (accent_piece a bytes)
 accent_piece-behind p a [] = behind_err p 2 _
-accent_piece-behind p a (b ∷ bytes) = go (spelled a b)
-  where
-    go : (o : Option ℕ) → Behind p 2 (elim o as (λ _. Result Piece TextFault)
-        [ None ↦ Err TextFault.UnknownEscape | Some c ↦ Ok (one (TextItem.Character c) 2) ])
-    go None = behind_err p 2 _
-    go (Some c) = behind_ok p _ 2 refl
+accent_piece-behind p a (b ∷ bytes) = go (spelled a b) where
+  go : (o : Option ℕ) → Behind p 2 (elim o as (λ _. Result Piece TextFault)
+      [ None ↦ Err TextFault.UnknownEscape | Some c ↦ Ok (one (TextItem.Character c) 2) ])
+  go None = behind_err p 2 _
+  go (Some c) = behind_ok p _ 2 refl
 
 -- the piece of the first bytes is the piece of all, where that is found within them
 Keeps : Piece → Result Piece TextFault → Result Piece TextFault → Type 0
@@ -120,10 +113,8 @@ code_piece-cut : (p : Piece) (xs ys : List ℕ) → p.behind ≤ 1 + length xs �
     Keeps p (code_piece (number_from 10 0 0 (xs ++ ys))) (code_piece (number_from 10 0 0 xs))
 unfolding Keeps Behind
 code_piece-cut p xs ys le e =
-    let found = number_from 10 0 0 (xs ++ ys) in
-    let behind : p.behind ≡ 1 + found.0 = code_piece-behind p found e in
-    let same = number_from-cut 10 0 0 xs ys (omega arith) in
-    ap code_piece (sym same) ∙ e
+    let found = number_from 10 0 0 (xs ++ ys) in let behind : p.behind ≡ 1 + found.0 = code_piece-behind p found e in
+    let same = number_from-cut 10 0 0 xs ys (omega arith) in ap code_piece (sym same) ∙ e
 
 unicode_piece-cut : (p : Piece) (xs ys : List ℕ) → p.behind ≤ 1 + length xs →
     Keeps p (unicode_piece (xs ++ ys) (number_from 16 0 0 (xs ++ ys))) (unicode_piece xs (number_from 16 0 0 xs))
@@ -131,13 +122,9 @@ unfolding Keeps Behind
 unicode_piece-cut p xs ys le e =
     let found = number_from 16 0 0 (xs ++ ys) in
     let behind : p.behind ≡ 2 + found.0 = unicode_piece-behind p (xs ++ ys) found e in
-    let same = number_from-cut 16 0 0 xs ys (omega arith) in
-    let closed = closes-cut found.0 xs ys (omega arith) in
-    ap (unicode_piece xs) (sym same)
-    ∙ ap (λ (t : Bool). cond (eqb found.0 0 || not t) (Err TextFault.UnknownEscape)
-    (character_piece (zscii_of_unicode found.1) (2 + found.0)))
-    (sym closed)
-    ∙ e
+    let same = number_from-cut 16 0 0 xs ys (omega arith) in let closed = closes-cut found.0 xs ys (omega arith) in
+    ap (unicode_piece xs) (sym same) ∙ ap (λ (t : Bool). cond (eqb found.0 0 || not t) (Err TextFault.UnknownEscape)
+    (character_piece (zscii_of_unicode found.1) (2 + found.0))) (sym closed) ∙ e
 
 variable_piece-cut : (p : Piece) (m : Mode) (tens : ℕ) (xs ys : List ℕ) → p.behind ≤ 1 + length xs →
     Keeps p (variable_piece m tens (xs ++ ys)) (variable_piece m tens xs)
@@ -182,8 +169,7 @@ escape_piece-far : (p : Piece) (m : Mode) (bytes : List ℕ) → Far p (escape_p
 unfolding escape_piece Far
 escape_piece-far p m [] e = cc
 escape_piece-far p m (b ∷ bytes) e =
-    let code = number_from 10 0 0 bytes in
-    let character = number_from 16 0 0 bytes in
+    let code = number_from 10 0 0 bytes in let character = number_from 16 0 0 bytes in
     far_both p (eqb b 64) _ _ (far p (1 + code.0) _ (omega arith) (code_piece-behind p code))
     (far_both p (eqb b 123) _ _ (far p (2 + character.0) _ (omega arith) (unicode_piece-behind p bytes character))
     (far p 2 _ (omega arith) (plain_escape-far p m b bytes (digit_of 10 b)))) e
@@ -208,21 +194,17 @@ stroke-cut : (p : Piece) (set : CharSet) (xs ys : List ℕ) → p.behind ≤ len
 unfolding Keeps Behind
 stroke-cut p set xs ys le e =
     let behind : p.behind ≡ white_len set (xs ++ ys) = white-behind p 0 (white_len set (xs ++ ys)) e in
-    let same = prefix_len-cut (is_white set) xs ys (omega arith) in
-    ap (white 0) (sym same) ∙ e
+    let same = prefix_len-cut (is_white set) xs ys (omega arith) in ap (white 0) (sym same) ∙ e
 
 run-cut : (p : Piece) (set : CharSet) (after_mark : Bool) (b : ℕ) (xs ys : List ℕ) → p.behind ≤ length xs → Keeps p
     (white (spaces after_mark (b ∷ take (white_len set (xs ++ ys)) (xs ++ ys))) (white_len set (xs ++ ys)))
     (white (spaces after_mark (b ∷ take (white_len set xs) xs)) (white_len set xs))
 unfolding Keeps Behind
 run-cut p set after_mark b xs ys le e =
-    let n = white_len set (xs ++ ys) in
-    let behind : p.behind ≡ n = white-behind p _ n e in
-    let fits : n ≤ length xs = omega arith in
-    let same = prefix_len-cut (is_white set) xs ys fits in
+    let n = white_len set (xs ++ ys) in let behind : p.behind ≡ n = white-behind p _ n e in
+    let fits : n ≤ length xs = omega arith in let same = prefix_len-cut (is_white set) xs ys fits in
     ap (λ (k : ℕ). white (spaces after_mark (b ∷ take k xs)) k) (sym same)
-    ∙ ap (λ (run : List ℕ). white (spaces after_mark (b ∷ run)) n) (sym (take-append-le n xs ys fits))
-    ∙ e
+    ∙ ap (λ (run : List ℕ). white (spaces after_mark (b ∷ run)) n) (sym (take-append-le n xs ys fits)) ∙ e
 
 -- a piece that ends within the first bytes is the one that they begin with
 pub piece_at-cut : (set : CharSet) (m : Mode) (after_mark : Bool) (b : ℕ) (xs ys : List ℕ) (p : Piece) →

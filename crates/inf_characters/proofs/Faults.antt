@@ -48,24 +48,21 @@ variable_piece-told : (m : Mode) (tens : ℕ) (bytes : List ℕ) → Told (varia
 variable_piece-told Mode.Quote tens bytes = told_escape
 variable_piece-told Mode.Abbreviation tens bytes = told_escape
 variable_piece-told Mode.Text tens [] = told_escape
-variable_piece-told Mode.Text tens (b ∷ bytes) = go (digit_of 10 b)
-  where
-    go : (o : Option ℕ) → Told (elim o as (λ _. Result Piece TextFault) [
-      | None ↦ Err TextFault.UnknownEscape
-      | Some units ↦ cond
-          (ltb (10 * tens + units) 32) (Ok (one (TextItem.Variable (10 * tens + units)) 2)) (Err TextFault.BadCode)
-    ])
-    go None = told_escape
-    go (Some units) = told_both (ltb (10 * tens + units) 32) _ _ (told_ok _) told_code
+variable_piece-told Mode.Text tens (b ∷ bytes) = go (digit_of 10 b) where
+  go : (o : Option ℕ) → Told (elim o as (λ _. Result Piece TextFault) [
+    | None ↦ Err TextFault.UnknownEscape
+    | Some units ↦ cond (ltb (10 * tens + units) 32) (Ok (one (TextItem.Variable (10 * tens + units)) 2)) (Err TextFault.BadCode)
+  ])
+  go None = told_escape
+  go (Some units) = told_both (ltb (10 * tens + units) 32) _ _ (told_ok _) told_code
 
 accent_piece-told : (a : ℕ) (bytes : List ℕ) → Told (accent_piece a bytes)
 accent_piece-told a [] = told_escape
-accent_piece-told a (b ∷ bytes) = go (spelled a b)
-  where
-    go : (o : Option ℕ) →
-        Told (elim o as (λ _. Result Piece TextFault) [ None ↦ Err TextFault.UnknownEscape | Some c ↦ Ok (one (TextItem.Character c) 2) ])
-    go None = told_escape
-    go (Some c) = told_ok _
+accent_piece-told a (b ∷ bytes) = go (spelled a b) where
+  go : (o : Option ℕ) →
+      Told (elim o as (λ _. Result Piece TextFault) [ None ↦ Err TextFault.UnknownEscape | Some c ↦ Ok (one (TextItem.Character c) 2) ])
+  go None = told_escape
+  go (Some c) = told_ok _
 
 escape_piece-told : (m : Mode) (bytes : List ℕ) → Told (escape_piece m bytes)
 unfolding escape_piece
@@ -85,8 +82,7 @@ piece_at-told set m after_mark b bytes = told_both (eqb b 64) _ _ (escape_piece-
   where
     go : (o : Option ℕ) → Told (elim o as (λ _. Result Piece TextFault) [
       | None ↦ Err TextFault.NoZscii
-      | Some c ↦ Ok
-          (record { item = TextItem.Character (meaning m c); count = 1; behind = 0; is_mark = is_new_line_mark m b })
+      | Some c ↦ Ok (record { item = TextItem.Character (meaning m c); count = 1; behind = 0; is_mark = is_new_line_mark m b })
     ])
     go None = told_character
     go (Some c) = told_ok _

@@ -50,9 +50,7 @@ seen-more : (set : CharSet) (mode : Mode) (after_mark : Bool) (items : List Text
     (xs ys : List ℕ) → drop piece.behind tail ≡ xs ++ ys → text_of set mode ((seen ++ first ∷ take piece.behind tail) ++ xs) ≡ with_front
     (items ++ replicate piece.count piece.item) (text_from set mode piece.is_mark 0 xs)
 seen-more set mode after_mark items seen first tail piece found le cut xs ys split =
-    let k = piece.behind in
-    let own = take k tail in
-    let given = replicate piece.count piece.item in
+    let k = piece.behind in let own = take k tail in let given = replicate piece.count piece.item in
     let whole : tail ≡ (own ++ xs) ++ ys =
     sym (take-append-drop k tail) ∙ ap (λ (r : List ℕ). own ++ r) split ∙ sym (append_assoc own xs ys) in
     let room : k ≤ length (own ++ xs) = omega (arith, length-append own xs, length-take k tail) in
@@ -65,10 +63,8 @@ seen-more set mode after_mark items seen first tail piece found le cut xs ys spl
     let step : text_from set mode after_mark 0 (first ∷ (own ++ xs)) ≡ with_front given (text_from set mode piece.is_mark 0 xs) =
     ap (λ (r : Result Piece TextFault). and_then r (λ p. text_from set mode p.is_mark p.behind (own ++ xs))) alone
     ∙ ap (with_front given) (text_from-passed set mode piece.is_mark k (own ++ xs) ∙ ap (text_from set mode piece.is_mark 0) past) in
-    ap (text_of set mode) (append_assoc seen (first ∷ own) xs)
-    ∙ cut (first ∷ (own ++ xs)) ys (ap (λ (r : List ℕ). first ∷ r) whole)
-    ∙ ap (with_front items) step
-    ∙ sym (with_front-append items given (text_from set mode piece.is_mark 0 xs))
+    ap (text_of set mode) (append_assoc seen (first ∷ own) xs) ∙ cut (first ∷ (own ++ xs)) ys (ap (λ (r : List ℕ). first ∷ r) whole)
+    ∙ ap (with_front items) step ∙ sym (with_front-append items given (text_from set mode piece.is_mark 0 xs))
 
 -- one more piece
 pub Continues-more : (set : CharSet) (mode : Mode) (after_mark : Bool) (items : List TextItem) (rest bytes : List ℕ) (first : ℕ)

@@ -20,56 +20,45 @@ record IsSign (b : ℕ) : Type 0 where
   no_mark : eqb b 94 ≡ false
 
 is_sign : (b : ℕ) → is_itself b ≡ true → IsSign b
-is_sign b is = go (leb 95 b && leb b 125) refl is
-  where
-    go : (t : Bool) → (leb 95 b && leb b 125) ≡ t → (t || (leb 33 b && leb b 91 && not (eqb b 64))) ≡ true → IsSign b
-    go true e h =
-        let both = and_parts (leb 95 b) (leb b 125) e in
-        let low : 95 ≤ b = grind (arith, nat_tests, both.0) in
-        let high : b ≤ 125 = grind (arith, nat_tests, both.1) in
-        record {
-          low = omega arith;
-          high = high;
-          no_escape = grind (arith, nat_tests);
-          no_break = grind (arith, nat_tests);
-          no_mark = grind (arith, nat_tests);
-        }
-    go false e h =
-        let parts = and_parts (leb 33 b && leb b 91) (not (eqb b 64)) h in
-        let both = and_parts (leb 33 b) (leb b 91) parts.0 in
-        let low : 33 ≤ b = grind (arith, nat_tests, both.0) in
-        let high : b ≤ 91 = grind (arith, nat_tests, both.1) in
-        record {
-          low = low;
-          high = omega arith;
-          no_escape = unless (eqb b 64) parts.1;
-          no_break = grind (arith, nat_tests);
-          no_mark = grind (arith, nat_tests);
-        }
-      where
-        unless : (t : Bool) → not t ≡ true → t ≡ false
-        unless true h = absurd (both_ways false refl h)
-        unless false h = refl
+is_sign b is = go (leb 95 b && leb b 125) refl is where
+  go : (t : Bool) → (leb 95 b && leb b 125) ≡ t → (t || (leb 33 b && leb b 91 && not (eqb b 64))) ≡ true → IsSign b
+  go true e h =
+      let both = and_parts (leb 95 b) (leb b 125) e in let low : 95 ≤ b = grind (arith, nat_tests, both.0) in
+      let high : b ≤ 125 = grind (arith, nat_tests, both.1) in
+      record {
+        low = omega arith;
+        high = high;
+        no_escape = grind (arith, nat_tests);
+        no_break = grind (arith, nat_tests);
+        no_mark = grind (arith, nat_tests);
+      }
+  go false e h =
+      let parts = and_parts (leb 33 b && leb b 91) (not (eqb b 64)) h in
+      let both = and_parts (leb 33 b) (leb b 91) parts.0 in let low : 33 ≤ b = grind (arith, nat_tests, both.0) in
+      let high : b ≤ 91 = grind (arith, nat_tests, both.1) in
+      record {
+        low = low;
+        high = omega arith;
+        no_escape = unless (eqb b 64) parts.1;
+        no_break = grind (arith, nat_tests);
+        no_mark = grind (arith, nat_tests);
+      }
+    where
+      unless : (t : Bool) → not t ≡ true → t ≡ false
+      unless true h = absurd (both_ways false refl h)
+      unless false h = refl
 
 no_white : (set : CharSet) (b : ℕ) → IsSign b → is_white set b ≡ false
 no_white CharSet.Ascii b h =
-    let low = h.low in
-    let a : eqb b 32 ≡ false = grind (arith, nat_tests) in
-    let c : eqb b 9 ≡ false = grind (arith, nat_tests) in
-    let d : eqb b 12 ≡ false = grind (arith, nat_tests) in
-    let e : eqb b 10 ≡ false = grind (arith, nat_tests) in
-    let f : eqb b 13 ≡ false = grind (arith, nat_tests) in
+    let low = h.low in let a : eqb b 32 ≡ false = grind (arith, nat_tests) in
+    let c : eqb b 9 ≡ false = grind (arith, nat_tests) in let d : eqb b 12 ≡ false = grind (arith, nat_tests) in
+    let e : eqb b 10 ≡ false = grind (arith, nat_tests) in let f : eqb b 13 ≡ false = grind (arith, nat_tests) in
     rw (a, c, d, e, f) refl
 no_white CharSet.Latin1 b h =
-    let low = h.low in
-    let high = h.high in
-    let a : eqb b 32 ≡ false = grind (arith, nat_tests) in
-    let c : eqb b 9 ≡ false = grind (arith, nat_tests) in
-    let d : eqb b 12 ≡ false = grind (arith, nat_tests) in
-    let e : eqb b 10 ≡ false = grind (arith, nat_tests) in
-    let f : eqb b 13 ≡ false = grind (arith, nat_tests) in
-    let g : eqb b 160 ≡ false = grind (arith, nat_tests) in
-    rw (a, c, d, e, f, g) refl
+    let low = h.low in let high = h.high in let a : eqb b 32 ≡ false = grind (arith, nat_tests) in
+    let c : eqb b 9 ≡ false = grind (arith, nat_tests) in let d : eqb b 12 ≡ false = grind (arith, nat_tests) in
+    let e : eqb b 10 ≡ false = grind (arith, nat_tests) in let f : eqb b 13 ≡ false = grind (arith, nat_tests) in
+    let g : eqb b 160 ≡ false = grind (arith, nat_tests) in rw (a, c, d, e, f, g) refl
 
 has_sign : (set : CharSet) (b : ℕ) → IsSign b → has_byte set b ≡ true
 has_sign CharSet.Ascii b h = let high = h.high in grind (arith, nat_tests)
@@ -78,11 +67,8 @@ has_sign CharSet.Latin1 b h = refl
 sign_code : (set : CharSet) (b : ℕ) → IsSign b → zscii_of set b ≡ Some b
 unfolding zscii_of zscii_of_unicode
 sign_code set b h =
-    let low = h.low in
-    let high = h.high in
-    let from : leb 32 b ≡ true = grind (arith, nat_tests) in
-    let to : leb b 126 ≡ true = grind (arith, nat_tests) in
-    rw (no_white set b h, has_sign set b h, from, to) refl
+    let low = h.low in let high = h.high in let from : leb 32 b ≡ true = grind (arith, nat_tests) in
+    let to : leb b 126 ≡ true = grind (arith, nat_tests) in rw (no_white set b h, has_sign set b h, from, to) refl
 
 sign_meaning : (mode : Mode) (b : ℕ) → IsSign b → meaning mode b ≡ b
 sign_meaning Mode.Quote b h = rw h.no_mark refl
@@ -112,14 +98,12 @@ space_piece CharSet.Latin1 mode after_mark (b ∷ bytes) is = rw (no_white CharS
 -- a byte that is a character: a sign, or a space that a sign follows
 by_single : (P : ℕ → Type 0) (b : ℕ) (bytes : List ℕ) → is_single b bytes ≡ true → (IsSign b → P b) →
     (begins_itself bytes ≡ true → P 32) → P b
-by_single P b bytes is sign space = go (is_itself b) refl is
-  where
-    go : (t : Bool) → is_itself b ≡ t → (t || (eqb b 32 && begins_itself bytes)) ≡ true → P b
-    go true e h = sign (is_sign b e)
-    go false e h =
-        let parts = and_parts (eqb b 32) (begins_itself bytes) h in
-        let same : b ≡ 32 = grind (arith, nat_tests, parts.0) in
-        rw same (space parts.1)
+by_single P b bytes is sign space = go (is_itself b) refl is where
+  go : (t : Bool) → is_itself b ≡ t → (t || (eqb b 32 && begins_itself bytes)) ≡ true → P b
+  go true e h = sign (is_sign b e)
+  go false e h =
+      let parts = and_parts (eqb b 32) (begins_itself bytes) h in
+      let same : b ≡ 32 = grind (arith, nat_tests, parts.0) in rw same (space parts.1)
 
 single_piece : (set : CharSet) (mode : Mode) (after_mark : Bool) (b : ℕ) (bytes : List ℕ) → is_single b bytes ≡ true →
     piece_at set mode after_mark b bytes ≡ Ok (one (TextItem.Character b) 0)
@@ -128,34 +112,28 @@ single_piece set mode after_mark b bytes is =
     (sign_piece set mode after_mark b bytes) (space_piece set mode after_mark bytes)
 
 single_code : (b : ℕ) (bytes : List ℕ) → is_single b bytes ≡ true → is_code b ≡ true
-single_code b bytes is = by_single (λ c. is_code c ≡ true) b bytes is sign (λ h. refl)
-  where
-    sign : IsSign b → is_code b ≡ true
-    sign h =
-        let low = h.low in
-        let high = h.high in
-        let a : eqb b 13 ≡ false = grind (arith, nat_tests) in
-        let from : leb 32 b ≡ true = grind (arith, nat_tests) in
-        let to : leb b 126 ≡ true = grind (arith, nat_tests) in
-        rw (a, from, to) refl
+single_code b bytes is = by_single (λ c. is_code c ≡ true) b bytes is sign (λ h. refl) where
+  sign : IsSign b → is_code b ≡ true
+  sign h =
+      let low = h.low in let high = h.high in let a : eqb b 13 ≡ false = grind (arith, nat_tests) in
+      let from : leb 32 b ≡ true = grind (arith, nat_tests) in let to : leb b 126 ≡ true = grind (arith, nat_tests) in
+      rw (a, from, to) refl
 
 -- the bytes of a run are codes
 pub run_codes : (bytes : List ℕ) → list_all is_code (take (run_len bytes) bytes) ≡ true
 run_codes [] = refl
-run_codes (b ∷ bytes) = go (is_single b bytes) refl (run_codes bytes)
-  where
-    go : (t : Bool) → is_single b bytes ≡ t → list_all is_code (take (run_len bytes) bytes) ≡ true →
-        list_all is_code (take (cond t (suc (run_len bytes)) 0) (b ∷ bytes)) ≡ true
-    go true e more = rw (single_code b bytes e) more
-    go false e more = refl
+run_codes (b ∷ bytes) = go (is_single b bytes) refl (run_codes bytes) where
+  go : (t : Bool) → is_single b bytes ≡ t → list_all is_code (take (run_len bytes) bytes) ≡ true →
+      list_all is_code (take (cond t (suc (run_len bytes)) 0) (b ∷ bytes)) ≡ true
+  go true e more = rw (single_code b bytes e) more
+  go false e more = refl
 
 -- the first byte of a run is a character
 run_first : (b : ℕ) (bytes : List ℕ) → 0 < run_len (b ∷ bytes) → is_single b bytes ≡ true
-run_first b bytes some = go (is_single b bytes) some
-  where
-    go : (t : Bool) → 0 < cond t (suc (run_len bytes)) 0 → t ≡ true
-    go true lt = refl
-    go false lt = absurd (omega arith)
+run_first b bytes some = go (is_single b bytes) some where
+  go : (t : Bool) → 0 < cond t (suc (run_len bytes)) 0 → t ≡ true
+  go true lt = refl
+  go false lt = absurd (omega arith)
 
 module _ (set : CharSet) (mode : Mode) (bytes : List ℕ) where
   -- one character more
@@ -168,16 +146,14 @@ module _ (set : CharSet) (mode : Mode) (bytes : List ℕ) where
   run_more : (items : List TextItem) (rest : List ℕ) → Continues set mode false items rest bytes →
       Continues set mode false (items ++ characters (take (run_len rest) rest)) (drop (run_len rest) rest) bytes
   run_more items [] h = rw (append-nil items) h
-  run_more items (b ∷ tail) h = go (is_single b tail) refl (run_more (items ++ TextItem.Character b ∷ []) tail)
-    where
-      go : (t : Bool) → is_single b tail ≡ t → (Continues set mode false (items ++ TextItem.Character b ∷ []) tail bytes →
-          Continues set mode false ((items ++ TextItem.Character b ∷ []) ++ characters (take (run_len tail) tail))
-          (drop (run_len tail) tail) bytes) →
-          Continues set mode false (items ++ characters (take (cond t (suc (run_len tail)) 0) (b ∷ tail)))
-          (drop (cond t (suc (run_len tail)) 0) (b ∷ tail)) bytes
-      go true e more = rw (append_assoc items (TextItem.Character b ∷ []) (characters (take (run_len tail) tail))) at
-          (more (single_more false items b tail e h))
-      go false e more = rw (append-nil items) h
+  run_more items (b ∷ tail) h = go (is_single b tail) refl (run_more (items ++ TextItem.Character b ∷ []) tail) where
+    go : (t : Bool) → is_single b tail ≡ t → (Continues set mode false (items ++ TextItem.Character b ∷ []) tail bytes →
+        Continues set mode false ((items ++ TextItem.Character b ∷ []) ++ characters (take (run_len tail) tail))
+        (drop (run_len tail) tail) bytes) → Continues set mode false (items ++ characters (take (cond t (suc (run_len tail)) 0) (b ∷ tail)))
+        (drop (cond t (suc (run_len tail)) 0) (b ∷ tail)) bytes
+    go true e more = rw (append_assoc items (TextItem.Character b ∷ []) (characters (take (run_len tail) tail))) at
+        (more (single_more false items b tail e h))
+    go false e more = rw (append-nil items) h
 
   -- the characters of a run
   pub Continues-run : (after_mark : Bool) (items : List TextItem) (rest : List ℕ) (len : ℕ) (new : List TextItem) (next : List ℕ) →
@@ -188,8 +164,7 @@ module _ (set : CharSet) (mode : Mode) (bytes : List ℕ) where
       let single = run_first b tail (rw is at some) in
       let whole : run_len (b ∷ tail) ≡ suc (run_len tail) = ap (λ (t : Bool). cond t (suc (run_len tail)) 0) single in
       let more = run_more (items ++ TextItem.Character b ∷ []) tail (single_more after_mark items b tail single h) in
-      rw (pushed, left, is, whole)
-      (rw (append_assoc items (TextItem.Character b ∷ []) (characters (take (run_len tail) tail))) at more)
+      rw (pushed, left, is, whole) (rw (append_assoc items (TextItem.Character b ∷ []) (characters (take (run_len tail) tail))) at more)
 
   -- the bytes up to the first character of a run, and this one, are a text
   pub run_holds : (after_mark : Bool) (items : List TextItem) (rest : List ℕ) → 0 < run_len rest →

@@ -52,11 +52,10 @@ abbrev pub variable_piece : Mode → ℕ → List ℕ → Result Piece TextFault
 variable_piece Mode.Quote tens bytes = Err TextFault.UnknownEscape
 variable_piece Mode.Abbreviation tens bytes = Err TextFault.UnknownEscape
 variable_piece Mode.Text tens [] = Err TextFault.UnknownEscape
-variable_piece Mode.Text tens (b ∷ bs) =
-    elim (digit_of 10 b) [
-      | None ↦ Err TextFault.UnknownEscape
-      | Some units ↦ if nat_lt (10 * tens + units) 32 then Ok (one (TextItem.Variable (10 * tens + units)) 2) else Err TextFault.BadCode
-    ]
+variable_piece Mode.Text tens (b ∷ bs) = elim (digit_of 10 b) [
+  | None ↦ Err TextFault.UnknownEscape
+  | Some units ↦ if nat_lt (10 * tens + units) 32 then Ok (one (TextItem.Variable (10 * tens + units)) 2) else Err TextFault.BadCode
+]
 
 -- the two characters that spell each of ZSCII 155 to 223 behind @, in their order (Inform Designer's Manual, table 2)
 unfoldable pub spellings : List ℕ
@@ -80,8 +79,7 @@ spelled mark letter = pair_from (stroke mark) letter 155 spellings
 -- @, a mark and a letter: an accented letter
 abbrev pub accent_piece : ℕ → List ℕ → Result Piece TextFault
 accent_piece a [] = Err TextFault.UnknownEscape
-accent_piece a (b ∷ bs) =
-    elim (spelled a b) [ None ↦ Err TextFault.UnknownEscape | Some c ↦ Ok (one (TextItem.Character c) 2) ]
+accent_piece a (b ∷ bs) = elim (spelled a b) [ None ↦ Err TextFault.UnknownEscape | Some c ↦ Ok (one (TextItem.Character c) 2) ]
 
 -- the piece that @ begins
 unfoldable pub escape_piece : Mode → List ℕ → Result Piece TextFault
@@ -110,8 +108,7 @@ white_len set bytes = prefix_len (is_white set) bytes
 -- the number of spaces that a run of white space is read as: with a line end in it one, or none right behind the mark of a new line; else
 -- as many as it has bytes
 abbrev pub spaces : Bool → List ℕ → ℕ
-spaces after_mark run =
-    if not (list_any is_line_end run) then length run else if after_mark then 0 else 1
+spaces after_mark run = if not (list_any is_line_end run) then length run else if after_mark then 0 else 1
 
 -- the piece at the front of a text
 unfoldable pub piece_at : CharSet → Mode → Bool → ℕ → List ℕ → Result Piece TextFault
@@ -121,8 +118,7 @@ piece_at set mode after_mark b bytes =
     else if is_white set b then Ok (record {
       item = TextItem.Character 32;
       count = spaces after_mark (b ∷ take (white_len set bytes) bytes);
-      behind =
-          white_len set bytes;
+      behind = white_len set bytes;
       is_mark = false;
     })
     else elim (zscii_of set b) [

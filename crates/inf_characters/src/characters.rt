@@ -7,7 +7,7 @@ use std::marker::Model;
 
 /// A character code of the Z-machine that a text may have: 13 (the new line), 32 to 126 (ASCII) and
 /// 155 to 223 (Z-Machine Standard 1.1, section 3.8). Contracts see the number.
-#[derive(Clone, Copy, PartialEq, Eq)]
+#[derive(Clone, Copy, Debug, PartialEq, Eq)]
 pub struct Zscii {
     code: u8,
 }
@@ -55,7 +55,7 @@ impl Zscii {
 }
 
 /// The way in which the bytes of a source are read as characters.
-#[derive(Clone, Copy)]
+#[derive(Clone, Copy, Debug)]
 pub enum CharSet {
     /// ASCII: a byte of 128 or more is no character.
     Ascii,
@@ -119,8 +119,7 @@ pub fn is_line_end(byte: u8) -> bool
     matches!(byte, b'\n' | b'\r')
 }
 
-/// Returns whether a byte is white space: tab, line feed, form feed, carriage return and space, under `Latin1`
-/// also 160.
+/// Returns whether a byte is white space: tab, line feed, form feed, carriage return and space, under `Latin1` also 160.
 pub fn is_white(set: CharSet, byte: u8) -> bool
     ensures { result ≡ is_white set byte }
 {

@@ -17,8 +17,7 @@ const OPENING_BRACE: u8 = b'{';
 
 const CLOSING_BRACE: u8 = b'}';
 
-/// The two characters that spell each of the codes 155 to 223 behind `@` (Designer's Manual, table
-/// 2).
+/// The two characters that spell each of the codes 155 to 223 behind `@` (Designer's Manual, table 2).
 const SPELLINGS: &[u8; 138] =
     b":a:o:u:A:O:Uss>><<:e:i:y:E:I'a'e'i'o'u'y'A'E'I'O'U'Y`a`e`i`o`u`A`E`I`O`U^a^e^i^o^u^A^E^I^O^U\
         oaoA\\o\\O~a~n~o~A~N~OaeAEcccCthetThEtLLoeOE!!??";
@@ -54,7 +53,6 @@ fn one(item: TextItem, behind: usize) -> Piece
     }
 }
 
-/// Returns the piece of `@@` and a decimal number: the character of that code.
 fn code_piece(bytes: &[u8]) -> Result<Piece, TextFault>
     ensures value { result ≡ code_piece (number_from 10 0 0 bytes.now) }
     ensures piece { IfOk result (λ p. (p.behind ≤ length bytes.now + 1) × IsItem p.item) }
@@ -69,8 +67,6 @@ fn code_piece(bytes: &[u8]) -> Result<Piece, TextFault>
     }
 }
 
-/// Returns the piece of `@{`, a hexadecimal number and `}`: the character of that number in
-/// Unicode.
 #[tactic(auto, using(crate::proofs::Capped::zscii_of_capped))]
 fn unicode_piece(bytes: &[u8]) -> Result<Piece, TextFault>
     ensures value { result ≡ unicode_piece bytes.now (number_from 16 0 0 bytes.now) }
@@ -86,7 +82,6 @@ fn unicode_piece(bytes: &[u8]) -> Result<Piece, TextFault>
     }
 }
 
-/// Returns whether a closing brace is the first of `bytes`.
 fn closes(bytes: &[u8]) -> bool
     ensures value { result ≡ closes bytes.now }
     ensures room { IsTrue result → 0 < length bytes.now }
@@ -94,8 +89,6 @@ fn closes(bytes: &[u8]) -> bool
     matches!(bytes, [CLOSING_BRACE, ..])
 }
 
-/// Returns the piece of `@` and two digits: a string variable, which only the texts that are
-/// printed have.
 fn variable_piece(mode: Mode, tens: u32, bytes: &[u8]) -> Result<Piece, TextFault>
     requires { tens < 16 }
     ensures value { result ≡ variable_piece mode tens bytes.now }
@@ -118,7 +111,6 @@ fn variable_piece(mode: Mode, tens: u32, bytes: &[u8]) -> Result<Piece, TextFaul
     }
 }
 
-/// Returns the piece of `@`, a mark and a letter: an accented letter.
 fn accent_piece(first: u8, bytes: &[u8]) -> Result<Piece, TextFault>
     ensures value { result ≡ accent_piece first bytes.now }
     ensures piece { IfOk result (λ p. (p.behind ≤ length bytes.now + 1) × IsItem p.item) }
@@ -132,8 +124,6 @@ fn accent_piece(first: u8, bytes: &[u8]) -> Result<Piece, TextFault>
     }
 }
 
-/// Returns the mark that `byte` is read as: a backslash for a slash, and each other byte for
-/// itself.
 fn stroke(byte: u8) -> u8
     ensures { result ≡ stroke byte }
 {

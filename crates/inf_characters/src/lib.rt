@@ -1,6 +1,5 @@
-//! The characters of a text: ZSCII, the two character sets of a source, escapes, and the texts that
-//! are read from a source's bytes (Z-Machine Standard 1.1, section 3.8; Inform Designer's Manual,
-//! section 1.11).
+//! The characters of a text: ZSCII, the two character sets of a source, escapes, and the texts that are read from a source's bytes
+//! (Z-Machine Standard 1.1, section 3.8; Inform Designer's Manual, section 1.11).
 #![tactic(auto)]
 
 mod characters;

@@ -18,8 +18,7 @@ pub(crate) fn digit_of(base: u32, byte: u8) -> Option<u32>
     }
 }
 
-/// Returns the number of digits of the base at the front of `bytes`, and the number that they write, or
-/// 65536 where that is less.
+/// Returns the number of digits of the base at the front of `bytes`, and the number that they write, or 65536 where that is less.
 pub(crate) fn number_at(base: u32, bytes: &[u8]) -> (usize, u32)
     requires { base ≤ 16 }
     ensures value { result ≡ capped (number_from base 0 0 bytes.now) }

@@ -72,24 +72,20 @@ pub(crate) struct Piece {
     pub(crate) is_mark: bool,
 }
 
-/// Reads the bytes of a text, without its quotation marks, or returns the fault of the first place that
-/// can't be read.
+/// Reads the bytes of a text, without its quotation marks, or returns the fault of the first place that can't be read.
 ///
-/// In each mode `@` begins an escape (an accented letter; `@@` and a code; `@{` and a Unicode number
-/// and `}`), and `\` and the white space behind it give nothing. A run of white space with a line end
-/// in it is one space, or nothing right behind the mark `^` of a new line; each other white space byte
-/// is a space. A run that `\` breaks is two, and the one before it is judged by itself.
+/// In each mode `@` begins an escape (an accented letter; `@@` and a code; `@{` and a Unicode number and `}`), and `\` and the white space
+/// behind it give nothing. A run of white space with a line end in it is one space, or nothing right behind the mark `^` of a new line;
+/// each other white space byte is a space. A run that `\` breaks is two, and the one before it is judged by itself.
 ///
-/// The faults: `UnknownEscape` for an `@` without an escape (for a string variable in `Quote` and
-/// `Abbreviation` too), `NoZscii` for a byte or a Unicode number without ZSCII code, `BadCode` for a
-/// code other than 13, 32 to 126 and 155 to 223 and for a string variable over 31, and `Memory` where
-/// there is too little memory for the text of some front of the bytes, which is not empty then.
+/// The faults: `UnknownEscape` for an `@` without an escape (for a string variable in `Quote` and `Abbreviation` too), `NoZscii` for a byte
+/// or a Unicode number without ZSCII code, `BadCode` for a code other than 13, 32 to 126 and 155 to 223 and for a string variable over 31,
+/// and `Memory` where there is too little memory for the text of some front of the bytes, which is not empty then.
 pub fn read_text(alloc: Global, bytes: &[u8], set: CharSet, mode: Mode) -> Result<Text, TextFault>
     ensures { Reads set mode bytes.now result }
 {
     let mut items = Vec::new(alloc);
-    // Most bytes are a character each. Where there is no room for as many items, there may be for the
-    // text.
+    // Most bytes are a character each. Where there is no room for as many items, there may be for the text.
     let _ = items.reserve(bytes.len());
     let mut rest = bytes;
     let mut after_mark = false;
@@ -130,7 +126,6 @@ fn all_plain(bytes: &[u8]) -> bool
     plain
 }
 
-/// Returns whether a byte of a text is a character or white space by itself.
 fn is_plain(byte: u8) -> bool
     ensures { result ≡ is_plain byte }
 {
@@ -207,7 +202,6 @@ fn has_line_end(bytes: &[u8]) -> bool
     bytes.iter().any(|byte| is_line_end(*byte))
 }
 
-/// Returns the number of white space bytes at the front of `bytes`.
 fn white_len(set: CharSet, bytes: &[u8]) -> usize
     ensures value { result ≡ white_len set bytes.now }
     ensures within { result ≤ length bytes.now }
@@ -232,7 +226,6 @@ fn meaning(mode: Mode, code: Zscii) -> Zscii
     }
 }
 
-/// Returns whether a byte is the mark of a new line.
 fn is_new_line_mark(mode: Mode, byte: u8) -> bool
     ensures { result ≡ is_new_line_mark mode byte }
 {

@@ -7,7 +7,6 @@ use crate::characters::Zscii;
 use crate::reading::TextFault;
 use crate::texts::TextItem;
 
-/// Returns the number of bytes at the front of `bytes` that are a character each.
 pub(crate) fn run_len(bytes: &[u8]) -> usize
     ensures value { result ≡ run_len bytes.now }
     ensures within { result ≤ length bytes.now }
@@ -20,8 +19,6 @@ pub(crate) fn run_len(bytes: &[u8]) -> usize
     bytes.len()
 }
 
-/// Returns whether `byte`, where `behind` comes behind it, is a character: a sign that is itself, or a space that no
-/// other white space follows.
 #[inline]
 fn is_single(byte: u8, behind: &[u8]) -> bool
     ensures { result ≡ is_single byte behind.now }
@@ -29,7 +26,6 @@ fn is_single(byte: u8, behind: &[u8]) -> bool
     is_itself(byte) || (byte == b' ' && begins_itself(behind))
 }
 
-/// Returns whether the first of `bytes` is a sign that is itself.
 #[inline]
 fn begins_itself(bytes: &[u8]) -> bool
     ensures { result ≡ begins_itself bytes.now }
@@ -40,7 +36,6 @@ fn begins_itself(bytes: &[u8]) -> bool
     }
 }
 
-/// Returns whether `byte` is a letter, a digit or one of the signs that are themselves in every mode.
 #[inline]
 fn is_itself(byte: u8) -> bool
     ensures { result ≡ is_itself byte }

@@ -78,8 +78,7 @@ impl Text {
         Text { items }
     }
 
-    /// Copies the text into memory of its own. The only error is that there is too little memory for its
-    /// items.
+    /// Copies the text into memory of its own. The only error is that there is too little memory for its items.
     pub fn copied(&self, alloc: Global) -> Result<Text, AllocError>
         ensures ok { IfOk result (λ text. text ≡ self.now) }
         ensures err { IfErr result (λ _. 0 < length self.now) }

@@ -18,8 +18,7 @@ use Rattle.inf_code.specs.Code.{StandsFor, known, padded, cells_from, AreInOrder
 in_order-bound : (place end : ℕ) (fixups : List Fixup) → AreInOrder place fixups end → place ≤ end
 in_order-bound place end [] within = within
 in_order-bound place end (fixup ∷ fixups) within =
-    let next = in_order-bound (fixup.place + 2) end fixups within.1 in
-    let first : place ≤ fixup.place = within.0 in
+    let next = in_order-bound (fixup.place + 2) end fixups within.1 in let first : place ≤ fixup.place = within.0 in
     omega arith
 
 -- fixups behind others
@@ -50,8 +49,7 @@ cells_from-append place middle end [] (fixup ∷ more) bytes new at first second
     ∙ append_assoc (known bytes) (known (take (fixup.place - middle) new)) (rest (drop (fixup.place + 2 - middle) new))
 cells_from-append place middle end (fixup ∷ fixups) more bytes new at first second =
     let bound : fixup.place + 2 ≤ middle = in_order-bound (fixup.place + 2) middle fixups first.1 in
-    let behind : place ≤ fixup.place = first.0 in
-    let front : fixup.place - place ≤ length bytes = omega arith in
+    let behind : place ≤ fixup.place = first.0 in let front : fixup.place - place ≤ length bytes = omega arith in
     let back : fixup.place + 2 - place ≤ length bytes = omega arith in
     let left = drop (fixup.place + 2 - place) bytes in
     let long : middle ≡ fixup.place + 2 + length left = omega (arith, length-drop (fixup.place + 2 - place) bytes) in
@@ -91,8 +89,7 @@ stands_for-known place bytes =
 stands_for-later : (place : ℕ) (target : Target) →
     StandsFor place (record { area = AreaName.Code; place = place; target = target } ∷ []) (0 ∷ 0 ∷ []) (CodeCell.Later target ∷ [])
 stands_for-later place target =
-    let zeros : List ℕ = 0 ∷ 0 ∷ [] in
-    let none : place - place ≡ 0 = omega arith in
+    let zeros : List ℕ = 0 ∷ 0 ∷ [] in let none : place - place ≡ 0 = omega arith in
     let both : place + 2 - place ≡ 2 = omega arith in
     record {
       in_order = (omega arith, omega arith);
@@ -154,11 +151,9 @@ stands_for-items long places old new ((Plain byte) ∷ cells) bytes e =
     let fixups = closed_fixups long (old + 1) (new + 1) cells in
     let all = stands_for-append new (new + 1) [] fixups (byte ∷ []) found.0 (known (byte ∷ [])) others.0 (omega arith)
     (stands_for-known new (byte ∷ [])) others.1 in
-    let codes = known (byte ∷ []) ++ others.0 in
-    (codes, subst (λ xs. StandsFor new fixups xs codes) (sym found.2) all)
+    let codes = known (byte ∷ []) ++ others.0 in (codes, subst (λ xs. StandsFor new fixups xs codes) (sym found.2) all)
 stands_for-items long places old new ((Of what) ∷ cells) bytes e =
-    let later = old + special_size what in
-    let next = new + size_at long old what in
+    let later = old + special_size what in let next = new + size_at long old what in
     let found = some_joined (closed_special long places old new what) (closed_bytes long places later next cells) bytes e in
     let first = stands_for-special long places old new what found.0 found.2 in
     let others = stands_for-items long places later next cells found.1 found.3 in
@@ -172,8 +167,7 @@ stands_for-items long places old new ((Of what) ∷ cells) bytes e =
 stands_for-routine : (place : ℕ) (kind : RoutineKind) (contents : Contents) (body : List ℕ) → body_bytes place contents ≡ Some body →
     StandsFor place (routine_fixups place contents) (whole_bytes kind contents body) (routine_cells place kind contents)
 stands_for-routine place kind contents body is =
-    let fixups = routine_fixups place contents in
-    let end = closing kind contents in
+    let fixups = routine_fixups place contents in let end = closing kind contents in
     let items = stands_for-items (long_places place contents) (places place contents) (place + 1) (place + 1) contents.cells body is in
     let front = known (contents.locals ∷ []) in
     let first : StandsFor place fixups (contents.locals ∷ body) (front ++ items.0) =
@@ -191,17 +185,13 @@ stands_for-routine place kind contents body is =
 
 -- a routine, and the zeros behind it
 stands_for-padded : (scale : Scale) (start : ℕ) (kind : RoutineKind) (contents : Contents) (body : List ℕ) →
-    body_bytes start contents ≡ Some body
-    → StandsFor start (routine_fixups start contents)
+    body_bytes start contents ≡ Some body → StandsFor start (routine_fixups start contents)
     (whole_bytes kind contents body ++ zeros_behind scale (length (whole_bytes kind contents body)))
     (padded scale (routine_cells start kind contents))
 stands_for-padded scale start kind contents body is =
-    let code = whole_bytes kind contents body in
-    let cells = routine_cells start kind contents in
-    let fixups = routine_fixups start contents in
-    let zeros = zeros_behind scale (length code) in
-    let end = start + length code in
-    let routine = stands_for-routine start kind contents body is in
+    let code = whole_bytes kind contents body in let cells = routine_cells start kind contents in
+    let fixups = routine_fixups start contents in let zeros = zeros_behind scale (length code) in
+    let end = start + length code in let routine = stands_for-routine start kind contents body is in
     let behind = stands_for-append start end fixups [] code zeros cells (known zeros) refl routine (stands_for-known end zeros) in
     let here : StandsFor start fixups (code ++ zeros) (cells ++ known zeros) =
     subst (λ hs. StandsFor start hs (code ++ zeros) (cells ++ known zeros)) (append-nil fixups) behind in
@@ -217,8 +207,7 @@ pub stands_for-closed : (scale : Scale) (kind : RoutineKind) (contents : Content
     → StandsFor from listed whole (cells ++ padded scale (routine_cells start kind contents))
 stands_for-closed scale kind contents body from fixups listed area written whole cells start count at is before are_listed are_written
     counted is_whole =
-    let code = whole_bytes kind contents body in
-    let more = routine_fixups start contents in
+    let code = whole_bytes kind contents body in let more = routine_fixups start contents in
     let new = code ++ zeros_behind scale (length code) in
     let closed = padded scale (routine_cells start kind contents) in
     let all : StandsFor from (fixups ++ more) (area ++ new) (cells ++ closed) =

@@ -79,8 +79,7 @@ module _ (limits : CodeLimits) (finished : ℕ) (refs : Fixups) (bytes : List �
 
 -- the open routine has grown
 module _ (limits : CodeLimits) (finished : ℕ) (refs : Fixups) (bytes new : List ℕ) (routine longer : State) (contents : Contents)
-    (is : IsCode limits finished refs bytes (Some routine))
-    (holds : Holds contents routine bytes longer new) where
+    (is : IsCode limits finished refs bytes (Some routine)) (holds : Holds contents routine bytes longer new) where
   pub front_emitted : take finished new ≡ take finished bytes
   front_emitted = subst (λ n. take n new ≡ take n bytes) is.behind.start holds.front
 
@@ -130,8 +129,7 @@ module _ (scale : Scale) (kind : RoutineKind) (limits : CodeLimits) (finished : 
       → StandsFor 8 listed.list (drop 8 whole) (source_cells finished refs bytes ++ padded scale
       (routine_cells finished kind (contents_of routine bytes)))
   code_closed filled =
-      let start = is.behind.start in
-      let body = closes.body in
+      let start = is.behind.start in let body = closes.body in
       let eight : 8 ≤ length (take finished bytes) =
       omega (arith, first_within limits finished refs bytes (Some routine) is, length_finished limits finished refs bytes (Some routine) is)
       in
@@ -160,8 +158,7 @@ module _ (scale : Scale) (kind : RoutineKind) (limits : CodeLimits) (finished : 
 
   whole_front : whole ≡ written ++ zeros_behind scale closed.len → take 8 (take (length whole) whole) ≡ first_routine
   whole_front filled =
-      let more = contents.locals ∷ closes.body ++ closing kind contents in
-      let zeros = zeros_behind scale closed.len in
+      let more = contents.locals ∷ closes.body ++ closing kind contents in let zeros = zeros_behind scale closed.len in
       let longer : whole ≡ take finished bytes ++ (more ++ zeros) =
       filled ∙ ap (λ xs. xs ++ zeros) written_is ∙ append_assoc (take finished bytes) more zeros in
       ap (take 8) (take_all (length whole) whole (omega arith))
@@ -172,22 +169,20 @@ module _ (scale : Scale) (kind : RoutineKind) (limits : CodeLimits) (finished : 
       StandsFor 8 listed.list (source_bytes (length whole) whole) (source_cells (length whole) listed whole)
   whole_stands filled =
       let stands = itself 8 listed.list (drop 8 whole)
-      (source_cells finished refs bytes ++ padded scale (routine_cells finished kind (contents_of routine bytes))) (code_closed filled)
-      in
+      (source_cells finished refs bytes ++ padded scale (routine_cells finished kind (contents_of routine bytes))) (code_closed filled) in
       subst (λ xs. StandsFor 8 listed.list (drop 8 xs) (cells_from 8 listed.list (drop 8 xs)))
       (sym (take_all (length whole) whole (omega arith))) stands
 
   pub code_after : whole ≡ written ++ zeros_behind scale closed.len → length whole ≤ limits.code →
       IsCode limits (length whole) listed whole None
-  code_after filled few =
-      record {
-        within = omega arith;
-        front = whole_front filled;
-        stands = whole_stands filled;
-        limit = ap (λ (h : Fixups). h.limit) closes.fixups ∙ is.limit;
-        few = omega (arith, few);
-        behind = tt;
-      }
+  code_after filled few = record {
+    within = omega arith;
+    front = whole_front filled;
+    stands = whole_stands filled;
+    limit = ap (λ (h : Fixups). h.limit) closes.fixups ∙ is.limit;
+    few = omega (arith, few);
+    behind = tt;
+  }
 
   -- each routine has a byte at least
   pub counted_closed : (routines : ℕ) → whole ≡ written ++ zeros_behind scale closed.len → routines + 8 ≤ finished

@@ -35,11 +35,9 @@ pub closed_as : {scale : Scale} {has_begun : Bool} {finished : List CodeCell} {r
       finished = finished;
       routines = routines;
       opened = open_in bytes is_lost open_one;
-    } ≡ code
-    → fault_end limits scale kind finished (open_in bytes lost (Some routine)) ≡ fault_closed most kind code
+    } ≡ code → fault_end limits scale kind finished (open_in bytes lost (Some routine)) ≡ fault_closed most kind code
 closed_as {scale = scale} {finished = finished} {lost = lost} {is_lost = is_lost} {open_one = r} {limits = limits} kind most bytes some kept
-    is_most view =
-    ap (λ o. fault_end limits scale kind finished (open_in bytes lost o)) (sym some)
+    is_most view = ap (λ o. fault_end limits scale kind finished (open_in bytes lost o)) (sym some)
     ∙ ap (λ b. fault_end limits scale kind finished (open_in bytes b r)) (sym kept)
     ∙ ap (λ l. fault_end l scale kind finished (open_in bytes is_lost r)) is_most ∙ ap (fault_closed most kind) view
 

@@ -36,8 +36,7 @@ code_is_free false rest e = refl
 abbrev of_three : Bool → Bool → Bool → Option Limit
 of_three labels code refs = cond labels (Some Limit.Labels) (cond code (Some Limit.Code) (cond refs (Some Limit.Refs) None))
 
--- The list for the references of an open routine: its limit is the most references, and it has as many as precede those of
--- the routine.
+-- The list for the references of an open routine: its limit is the most references, and it has as many as precede those of the routine.
 pub record Lists (is_lost : Bool) (finished : List CodeCell) (listed : Fixups) : Type 0 where
   pub limit : listed.limit ≡ most_references
   pub count : length listed.list ≡ references_before is_lost finished
@@ -47,20 +46,18 @@ pub lists : (is_lost : Bool) (finished : ℕ) (refs spare : Fixups) (bytes : Lis
     → listed ≡ cond is_lost spare refs → Lists is_lost (source_cells finished refs bytes) listed
 lists true finished refs spare bytes listed stands limit empty is =
     record { limit = ap (λ (f : Fixups). f.limit) (is ∙ empty); count = ap (λ (f : Fixups). length f.list) (is ∙ empty) }
-lists false finished refs spare bytes listed stands limit empty is =
-    record {
-      limit = ap (λ (f : Fixups). f.limit) is ∙ limit;
-      count = ap (λ (f : Fixups). length f.list) is
-          ∙ sym (later_stands_for 8 refs.list (source_bytes finished bytes) (source_cells finished refs bytes) stands);
-    }
+lists false finished refs spare bytes listed stands limit empty is = record {
+  limit = ap (λ (f : Fixups). f.limit) is ∙ limit;
+  count = ap (λ (f : Fixups). length f.list) is
+      ∙ sym (later_stands_for 8 refs.list (source_bytes finished bytes) (source_cells finished refs bytes) stands);
+}
 
 -- the bytes of the area are those of the finished routines and of the open one
 pub bytes_are : (limits : CodeLimits) (finished : ℕ) (refs : Fixups) (bytes : List ℕ) (routine : State) →
     IsCode limits finished refs bytes (Some routine)
     → length bytes ≡ bytes_with (source_cells finished refs bytes) (contents_of routine bytes)
 bytes_are limits finished refs bytes routine is =
-    let stands = is.behind.open_still in
-    let contents = contents_of routine bytes in
+    let stands = is.behind.open_still in let contents = contents_of routine bytes in
     omega (
       arith,
       ap length stands.bytes,
@@ -78,13 +75,11 @@ limit_by limits most references contents len = cond (is_full contents.is_final l
 abbrev pub behind_by : Limits → ℕ → ℕ → ℕ → Contents → Option CloseFault
 behind_by limits most start references contents = missing_fault
     (twice_fault (body_fault (λ body. limit_by limits most references contents (start + 1 + length body)) (body_bytes start contents))
-    (twice_behind [] contents.cells))
-    (missing (long_places start contents) contents.cells)
+    (twice_behind [] contents.cells)) (missing (long_places start contents) contents.cells)
 
 -- more in the open routine, and its end
 module _ (limits : CodeLimits) (finished : ℕ) (refs listed : Fixups) (bytes : List ℕ) (is_lost : Bool) (routine : State)
-    (is : IsCode limits finished refs bytes (Some routine))
-    (kept : Lists is_lost (source_cells finished refs bytes) listed) where
+    (is : IsCode limits finished refs bytes (Some routine)) (kept : Lists is_lost (source_cells finished refs bytes) listed) where
   abbrev before : List CodeCell
   before = source_cells finished refs bytes
 
@@ -97,10 +92,8 @@ module _ (limits : CodeLimits) (finished : ℕ) (refs listed : Fixups) (bytes : 
   pub full_is : (cells : List Cell) →
       full_with cells routine bytes listed ≡ full_cells is_lost (source_cells finished refs bytes) cells (contents_of routine bytes)
   full_is cells =
-      let stands = is.behind.open_still in
-      let front = take routine.start bytes in
-      let long = length (long_bytes cells) in
-      let fixups = fixup_count cells in
+      let stands = is.behind.open_still in let front = take routine.start bytes in
+      let long = length (long_bytes cells) in let fixups = fixup_count cells in
       let len : length bytes ≡ bytes_with before contents =
       omega (arith, ap length stands.bytes, length-append front (contents.locals ∷ long_bytes contents.cells), stands.start, start_is) in
       let referred : length listed.list + routine.fixups ≡ references_with is_lost before contents =
@@ -121,8 +114,7 @@ module _ (limits : CodeLimits) (finished : ℕ) (refs listed : Fixups) (bytes : 
       (contents_of routine bytes)
   end_is kind = ap (λ (l : Limits). behind_by l listed.limit routine.start (length listed.list) contents) is.behind.limits
       ∙ ap (λ n. behind_by routine_bounds n routine.start (length listed.list) contents) kept.limit
-      ∙ ap (λ n. fault_behind n (length listed.list) contents) start_is
-      ∙ ap (λ n. fault_behind (place_behind before) n contents) kept.count
+      ∙ ap (λ n. fault_behind n (length listed.list) contents) start_is ∙ ap (λ n. fault_behind (place_behind before) n contents) kept.count
 
 -- the first of two faults is none where both are
 pub first_none : (first later : Option CloseFault) → first ≡ None → later ≡ None → first_fault first later ≡ None

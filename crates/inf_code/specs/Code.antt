@@ -18,8 +18,7 @@ use Rattle.inf_code.specs.declared.code.CodeLimits.{CodeLimits}
 abbrev pub known : List ℕ → List CodeCell
 known bytes = map CodeCell.Byte bytes
 
--- the zeros behind a routine of `size` bytes that fill it up to the next packed address (Z-Machine Standard 1.1, section
--- 1.2.3)
+-- the zeros behind a routine of `size` bytes that fill it up to the next packed address (Z-Machine Standard 1.1, section 1.2.3)
 abbrev pub zeros_behind : Scale → ℕ → List ℕ
 zeros_behind scale size = take (gap scale size) (0 ∷ 0 ∷ 0 ∷ 0 ∷ 0 ∷ 0 ∷ 0 ∷ [])
 
@@ -45,12 +44,10 @@ first_cells called = CodeCell.Byte 0x00 ∷ CodeCell.Byte 0x8F ∷ CodeCell.Late
 abbrev pub place_behind : List CodeCell → ℕ
 place_behind finished = 8 + size_of finished
 
--- The cells of bytes with fixups, from a place on: the bytes before the first fixup, its reference, and the cells of the
--- rest.
+-- The cells of bytes with fixups, from a place on: the bytes before the first fixup, its reference, and the cells of the rest.
 abbrev pub cells_from : ℕ → List Fixup → List ℕ → List CodeCell
 cells_from place [] bytes = known bytes
-cells_from place (fixup ∷ fixups) bytes =
-    known (take (fixup.place - place) bytes)
+cells_from place (fixup ∷ fixups) bytes = known (take (fixup.place - place) bytes)
     ++ CodeCell.Later fixup.target ∷ cells_from (fixup.place + 2) fixups (drop (fixup.place + 2 - place) bytes)
 
 -- Tells whether fixups follow one another from a place on, each of two bytes, and end before `end`.
@@ -78,15 +75,13 @@ cells_with place kind contents (Some body) = cells_from place (routine_fixups pl
 abbrev pub routine_cells : ℕ → RoutineKind → Contents → List CodeCell
 routine_cells place kind contents = cells_with place kind contents (body_bytes place contents)
 
--- An open routine: its contents so far, and whether it is lost. A lost routine gives no code, and only its labels and
--- offsets are checked.
+-- An open routine: its contents so far, and whether it is lost. A lost routine gives no code, and only its labels and offsets are checked.
 pub record Opened : Type 0 where
   pub contents : Contents
   pub is_lost : Bool
 
--- The routines of a story: the scale of packed addresses, whether its code has begun, the finished routines of its source,
--- their number, and the open routine, if any. Code begins with a first routine that the source does not have: it calls the
--- source's Main.
+-- The routines of a story: the scale of packed addresses, whether its code has begun, the finished routines of its source, their number,
+-- and the open routine, if any. Code begins with a first routine that the source does not have: it calls the source's Main.
 pub record Routines : Type 0 where
   pub scale : Scale
   pub has_begun : Bool
@@ -146,12 +141,11 @@ closed_count (Some o) = if o.is_lost then 0 else 1
 
 -- the routines after the open one is closed
 abbrev pub with_closed : RoutineKind → Routines → Routines
-with_closed kind routines =
-    record routines {
-      finished = routines.finished ++ closed_cells routines.scale kind (place_behind routines.finished) routines.opened;
-      routines = routines.routines + closed_count routines.opened;
-      opened = None;
-    }
+with_closed kind routines = record routines {
+  finished = routines.finished ++ closed_cells routines.scale kind (place_behind routines.finished) routines.opened;
+  routines = routines.routines + closed_count routines.opened;
+  opened = None;
+}
 
 -- the routines after the open one is given up
 abbrev pub with_none_open : Routines → Routines
@@ -173,8 +167,7 @@ references_before is_lost finished = if is_lost then 0 else later_count finished
 abbrev pub references_with : Bool → List CodeCell → Contents → ℕ
 references_with is_lost finished contents = references_before is_lost finished + fixup_count contents.cells
 
--- The bound of an open routine, which is the numbers of the program alone: the limits of a source are checked where a unit
--- is finished.
+-- The bound of an open routine, which is the numbers of the program alone: the limits of a source are checked where a unit is finished.
 abbrev pub unlimited : ℕ
 unlimited = 18446744073709551615
 
@@ -184,9 +177,7 @@ most_references = 18446744073709551610
 
 -- the first limit that the beginning of code would pass
 abbrev pub full_first : CodeLimits → Option Limit
-full_first limits =
-    if nat_lt limits.code 8 then Some Limit.Code else
-    if nat_lt limits.refs 5 then Some Limit.Refs else None
+full_first limits = if nat_lt limits.code 8 then Some Limit.Code else if nat_lt limits.refs 5 then Some Limit.Refs else None
 
 -- the first limit that is passed where code begins; none where it has begun
 abbrev pub full_unless : Bool → CodeLimits → Option Limit
@@ -214,8 +205,7 @@ code_count routines = (if routines.has_begun then 8 else 0) + size_of routines.f
 abbrev pub reference_count : Routines → ℕ
 reference_count routines = (if routines.has_begun then 5 else 4) + later_count routines.finished
 
--- the first limit that code would pass which begins with another routine; unless this is lost, it has a byte for the number
--- of its locals
+-- the first limit that code would pass which begins with another routine; unless this is lost, it has a byte for the number of its locals
 abbrev pub full_with_locals : Bool → CodeLimits → Option Limit
 full_with_locals is_lost limits = if not is_lost && nat_lt limits.code 9 then Some Limit.Code else full_first limits
 
@@ -298,25 +288,20 @@ abbrev pub references_left : SettingLimits → Routines → Option ℕ
 references_left limits routines =
     rest_behind (rest (limits Setting.References) (reference_count routines)) (references_open routines.opened)
 
--- The fault of a routine behind `start` bytes and `references` references: a label that is missing or placed twice, an
--- offset that does not fit, or the first bound that is passed, by its bytes with the return at its end or by all
--- references.
+-- The fault of a routine behind `start` bytes and `references` references: a label that is missing or placed twice, an offset that does not
+-- fit, or the first bound that is passed, by its bytes with the return at its end or by all references.
 abbrev pub limit_fault : ℕ → Contents → ℕ → Option CloseFault
-limit_fault references contents len =
-    if is_full contents.is_final unlimited len then Some (CloseFault.Full Limit.Code) else
+limit_fault references contents len = if is_full contents.is_final unlimited len then Some (CloseFault.Full Limit.Code) else
     if nat_lt most_references (references + fixup_count contents.cells) then Some (CloseFault.Full Limit.Refs) else None
 
 abbrev pub fault_behind : ℕ → ℕ → Contents → Option CloseFault
-fault_behind start references contents =
-    missing_fault
+fault_behind start references contents = missing_fault
     (twice_fault (body_fault (λ body. limit_fault references contents (start + 1 + length body)) (body_bytes start contents))
-    (twice_behind [] contents.cells))
-    (missing (long_places start contents) contents.cells)
+    (twice_behind [] contents.cells)) (missing (long_places start contents) contents.cells)
 
 -- The setting that finished routines would pass, by their bytes with the first one, and by all references that the story then has.
 abbrev pub full_finished : CodeLimits → ℕ → ℕ → Option Limit
-full_finished limits bytes references =
-    if nat_lt limits.code bytes then Some Limit.Code else
+full_finished limits bytes references = if nat_lt limits.code bytes then Some Limit.Code else
     if nat_lt limits.refs references then Some Limit.Refs else None
 
 -- the fault of a routine behind which finished routines would pass a setting; a lost one is none of them

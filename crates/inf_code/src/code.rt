@@ -48,9 +48,8 @@ const MOST_REFERENCES: usize = usize::MAX - FIRST_REFERENCES;
 pub struct CodeLimits {
     /// The most labels, branches and jumps of a routine. Their number is checked where a unit is finished.
     pub labels: usize,
-    /// The most bytes of all routines: the first one, which has 8, the finished ones with the zeros behind them, and the
-    /// open one with every branch long. The finished ones never have more; the number with the open one is checked where a
-    /// unit is finished.
+    /// The most bytes of all routines: the first one, which has 8, the finished ones with the zeros behind them, and the open one with
+    /// every branch long. The finished ones never have more; the number with the open one is checked where a unit is finished.
     pub code: usize,
     /// The most references whose numbers are known later: those of the routines, and four in tables. The finished ones never
     /// have more; the number with the open one is checked where a unit is finished.
@@ -58,7 +57,6 @@ pub struct CodeLimits {
 }
 
 impl CodeLimits {
-    /// Returns the first limit that the beginning of code would pass.
     fn full_first(self) -> Option<Limit>
         ensures { result ≡ full_first self }
     {
@@ -71,8 +69,7 @@ impl CodeLimits {
         }
     }
 
-    /// Returns the first limit that another routine would pass, which begins at `place` and is lost where `is_lost` says
-    /// it.
+    /// Returns the first limit that another routine would pass, which begins at `place` and is lost where `is_lost` says it.
     fn full_opened(self, is_lost: bool, has_begun: bool, place: usize) -> Option<Limit>
         ensures { result ≡ full_behind_bytes self is_lost has_begun place }
     {
@@ -108,8 +105,7 @@ pub struct Code<B: Bounds> {
     routines: usize,
     // The open routine, if any. Where none is open, the bytes behind the finished ones are no longer used.
     routine: Option<Routine>,
-    // Tells whether the open routine is lost. The references of a lost routine go to the spare list, which is empty
-    // otherwise.
+    // Tells whether the open routine is lost. The references of a lost routine go to the spare list, which is empty otherwise.
     is_lost: bool,
     spare: Refs,
     of: PhantomData<B>,
@@ -168,8 +164,7 @@ impl<B: Bounds> Code<B> {
         self.scale
     }
 
-    /// Multiplies packed addresses by `scale` from now on: the next routine that is closed is filled up to a multiple of
-    /// it.
+    /// Multiplies packed addresses by `scale` from now on: the next routine that is closed is filled up to a multiple of it.
     pub fn set_scale(&mut self, scale: Scale)
         ensures { self.new ≡ record self.old { scale = scale } }
     {
@@ -307,9 +302,8 @@ impl<B: Bounds> Code<B> {
         full
     }
 
-    /// Opens a routine of `locals` local variables, at most 15, and gives up one that is open. Code begins with it, unless
-    /// it has begun. A lost routine gives no code: only its labels are counted, and its faults of labels and offsets are
-    /// answered when it is closed.
+    /// Opens a routine of `locals` local variables, at most 15, and gives up one that is open. Code begins with it, unless it has begun. A
+    /// lost routine gives no code: only its labels are counted, and its faults of labels and offsets are answered when it is closed.
     ///
     /// A refused call leaves no routine open. It is refused where the beginning of code would pass a limit, or the byte for
     /// the number of locals would pass the numbers of the program, and otherwise only for want of memory.
@@ -362,8 +356,7 @@ impl<B: Bounds> Code<B> {
     pub fn label(&mut self, label: Label) -> Result<(), GrowFault>
         ensures ok { OnOk result (self.new ≡ record self.old { opened = with_label label self.old.opened }) }
         ensures err { OnErr result (self.new ≡ self.old) }
-        ensures fault { let full = full_label self.old in
-            MatchResult result (λ _. full ≡ None) (λ fault. fault ≡ refusal full) }
+        ensures fault { let full = full_label self.old in MatchResult result (λ _. full ≡ None) (λ fault. fault ≡ refusal full) }
         ensures is_open { IsErr result → IsSome self.old.opened }
     {
         let Some(opened) = &mut self.routine else {
@@ -414,11 +407,9 @@ impl<B: Bounds> Code<B> {
         self.routine = None;
     }
 
-    /// Returns the area of the code, whose first routine calls `called`, and appends its fixups to `refs`. An open routine
-    /// is given up.
+    /// Returns the area of the code, whose first routine calls `called`, and appends its fixups to `refs`. An open routine is given up.
     ///
-    /// The call is refused first where there would be more fixups than there may be, then for want of memory; `refs` then
-    /// stays unchanged.
+    /// The call is refused first where there would be more fixups than there may be, then for want of memory; `refs` then stays unchanged.
     pub fn into_area(self, called: Target, refs: &mut Refs) -> Result<PagedArea, AddFault>
         ensures bytes { IfOk result (λ area. area ≡ bytes_of (code_cells called self.finished)) }
         ensures fixups { OnOk result (refs.new
@@ -442,8 +433,7 @@ impl<B: Bounds> Code<B> {
     }
 }
 
-/// Lists `first` and `others` behind it, for all of which there is room. Refused for want of memory, the call leaves the
-/// list unchanged.
+/// Lists `first` and `others` behind it, for all of which there is room. Refused for want of memory, the call leaves the list unchanged.
 fn list_all(refs: &mut Refs, first: Fixup, others: &[Fixup]) -> Result<(), AllocError>
     requires { length refs.old.list + (1 + length others.now) ≤ refs.old.limit }
     ensures ok { OnOk result (refs.new ≡ with_fixups (refs.old.list ++ first ∷ others.now) refs.old) }

@@ -33,8 +33,7 @@ some_lacks : (o : Option (Bor (List ℕ))) (y : Bor (List ℕ)) → option_map (
     LacksByte 44 y.now
 some_lacks None y is lacks = cc
 some_lacks (Some x) y is lacks =
-    let same : x ≡ y = cc in
-    subst (λ (z : Bor (List ℕ)). LacksByte 44 z.now) same lacks
+    let same : x ≡ y = cc in subst (λ (z : Bor (List ℕ)). LacksByte 44 z.now) same lacks
 
 -- where no item of an iterator has a comma, the path that they are joined to by commas is cut into them
 pub run_cut : {S : Type 0} {steps : S → Option (Bor (List ℕ)) → S → Type 0} (p : Run steps) (path : List ℕ) → 0 < p.len

@@ -32,12 +32,11 @@ with_named-over Setting.References n s others = refl
 with_name-over : (o : Option Setting) (n : ℕ) (s others : Spoken) → with_name o n (numbers_over s others)
     ≡ numbers_over (with_name o n s) others
 with_name-over None n s others = refl
-with_name-over (Some x) n s others = by (is_fit n)
-  where
-    by : (fit : Bool) → cond fit (with_named x n (numbers_over s others)) (numbers_over s others)
-        ≡ numbers_over (cond fit (with_named x n s) s) others
-    by true = with_named-over x n s others
-    by false = refl
+with_name-over (Some x) n s others = by (is_fit n) where
+  by : (fit : Bool) → cond fit (with_named x n (numbers_over s others)) (numbers_over s others)
+      ≡ numbers_over (cond fit (with_named x n s) s) others
+  by true = with_named-over x n s others
+  by false = refl
 
 -- the words of a command taken so far, over those of a head
 abbrev over : HeadWords → TakenWords → TakenWords

@@ -46,8 +46,7 @@ pub has_slash-nowhere : (bs : List ℕ) → ((k : ℕ) → k < length bs → get
 has_slash-nowhere [] other = refl
 has_slash-nowhere (b ∷ bs) other =
     let rest : has_slash bs ≡ false = has_slash-nowhere bs (λ k lt. other (suc k) (omega arith)) in
-    let first : b ≢ 47 = other 0 (omega arith) in
-    grind arith
+    let first : b ≢ 47 = other 0 (omega arith) in grind arith
 
 -- the parts of a name that is split at its last `.`
 pub split_at_dot : (bs front back : List ℕ) → SplitsAroundMatch (RFindsChar 46) bs front back
@@ -75,13 +74,12 @@ stem-undivided bs none = stem-no_dot bs (λ i lt. NoCharPasses-char 46 bs i none
 
 -- a search for `/` shows whether there is one
 pub has_slash-found : (bs : List ℕ) (r : Bool) → MatchBool r (HasMatch (FindsChar 47) bs) (FindsChar 47 bs None) → has_slash bs ≡ r
-has_slash-found bs r cases = decided r (contains_char 47 bs r cases (lit< tt))
-  where
-    decided : (r : Bool) →
-        (r ≡ true → (k : ℕ) × (k < length bs) × (get_or bs k 0 ≡ 47)) × ((k : ℕ) → k < length bs → get_or bs k 0 ≡ 47 → r ≡ true) →
-        has_slash bs ≡ r
-    decided true (found, all) = let f = found refl in has_slash-at bs f.0 f.1 f.2
-    decided false (found, all) = has_slash-nowhere bs (λ k lt at. let e : false ≡ true = all k lt at in cc)
+has_slash-found bs r cases = decided r (contains_char 47 bs r cases (lit< tt)) where
+  decided : (r : Bool) →
+      (r ≡ true → (k : ℕ) × (k < length bs) × (get_or bs k 0 ≡ 47)) × ((k : ℕ) → k < length bs → get_or bs k 0 ≡ 47 → r ≡ true) →
+      has_slash bs ≡ r
+  decided true (found, all) = let f = found refl in has_slash-at bs f.0 f.1 f.2
+  decided false (found, all) = has_slash-nowhere bs (λ k lt at. let e : false ≡ true = all k lt at in cc)
 
 -- the name of a source has bytes
 abbrev name_by : Option (List ℕ) → List ℕ → List ℕ

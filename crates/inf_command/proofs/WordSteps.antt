@@ -11,8 +11,7 @@ read_from-taken words i d taken next lt took =
 
 -- a word that was refused ends the reading
 pub read_from-refused : (words : List (Bor (List ℕ))) (i : ℕ) (d : Bor (List ℕ)) (taken : TakenWords) (refused : WordFault) →
-    i < length words
-    → take_word taken i (get_or words i d).now ≡ Err refused
+    i < length words → take_word taken i (get_or words i d).now ≡ Err refused
     → read_from taken i (map (λ w. w.now) (drop i words)) ≡ Err refused
 read_from-refused words i d taken refused lt took =
     rw (drop-cons words i d) (ap (and_then (λ n. read_from n (i + 1) (map (λ w. w.now) (drop (suc i) words)))) took)

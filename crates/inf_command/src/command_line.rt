@@ -144,9 +144,8 @@ pub struct CommandLine;
 impl CommandLine {
     /// Reads the words from left to right; a later word on the same matter wins.
     ///
-    /// `-` is followed by letters, which choose as `Letters` has it. `$NAME=n` sets a setting to a decimal number.
-    /// `+a,b` gives the directories of included files. Of the other words the first names the source, the second the
-    /// story.
+    /// `-` is followed by letters, which choose as `Letters` has it. `$NAME=n` sets a setting to a decimal number. `+a,b` gives the
+    /// directories of included files. Of the other words the first names the source, the second the story.
     ///
     /// Returns the error of the first word that is refused: `Unknown` for a bare `-` or an unknown letter behind it;
     /// `BadSetting` for another word with `$`, an unknown setting, or a number that is not 1 to 1,048,576; `TooMany`

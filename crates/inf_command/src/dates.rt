@@ -3,8 +3,7 @@ ghost use Rattle.inf_command.specs.Dates.{serial_of, two_digits};
 
 use jiff::civil::Date;
 
-/// Returns the serial number of a story of this date: the year within its century, the month and the
-/// day, each as two ASCII digits.
+/// Returns the serial number of a story of this date: the year within its century, the month and the day, each as two ASCII digits.
 pub fn serial(date: Date) -> [u8; 6]
     ensures { result ≡ serial_of date }
 {

@@ -113,8 +113,7 @@ impl Spoken {
         }
     }
 
-    /// Returns the numbers that were named here, and for each setting that was not named here the number that `others`
-    /// name.
+    /// Returns the numbers that were named here, and for each setting that was not named here the number that `others` name.
     pub fn over(&self, others: &Spoken) -> Spoken
         ensures { result ≡ numbers_over self.now others.now }
     {

@@ -160,8 +160,7 @@ begun_at limits files first w =
     let o = begun limits w.output in record w {
       output = o;
       most_labels = max w.most_labels (labels_of o.code);
-      report = with_full files first
-          (full limits o) w.report;
+      report = with_full files first (full limits o) w.report;
     }
 
 -- A message at a place ends the compilation, if there is a place; and else the tokens of the expression are counted.
@@ -267,13 +266,12 @@ passed has_last w = record w { unit = over has_last w.unit }
 -- A header, which begins at a place, opens a routine with its locals. With an error it still declares its name, where that
 -- is free, and its locals. Z-Machine Standard 1.1, section 5.2.
 abbrev pub opened_with : Limits → Context → Place → Headed → Findings → Compilation → Compilation
-opened_with limits context first h found w =
-    unit_ended limits context first true found (record w {
-      output = opened limits (length h.locals) (is_some found.least) w.output;
-      locals = h.locals;
-      constructs = [];
-      labels = [];
-    })
+opened_with limits context first h found w = unit_ended limits context first true found (record w {
+  output = opened limits (length h.locals) (is_some found.least) w.output;
+  locals = h.locals;
+  constructs = [];
+  labels = [];
+})
 
 abbrev pub routine_declared : Limits → Name → Compilation → Compilation
 routine_declared limits name w =
@@ -431,8 +429,7 @@ constant limits context first (name ∷ names) w =
 -- The routine of a name is to be replaced where it stands in a file that is marked. That is a use of the name.
 abbrev pub replace : Limits → Context → Place → List Name → Compilation → Compilation
 replace limits context first [] w = passed true w
-replace limits context first (name ∷ names) w =
-    unit_ended limits context first true nothing_found
+replace limits context first (name ∷ names) w = unit_ended limits context first true nothing_found
     (record w { output = referred limits name.bytes name.place w.output; replaced = with_name name.bytes w.replaced })
 
 -- A stub is a routine with a number of locals, four at most, that returns 0. It is one where the name is not declared.

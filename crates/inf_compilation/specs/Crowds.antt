@@ -74,13 +74,12 @@ is_loud Operand.Unknown = false
 
 -- The operand of a leaf, behind the new actions so far: the actions, and the operand.
 abbrev pub operand_added : Table Place × Operand → Crowd → Crowd
-operand_added r c =
-    record c {
-      operands = c.operands ++ r.1 ∷ [];
-      actions = r.0;
-      tells = c.tells || is_loud r.1;
-      acts = c.acts || nat_lt (length c.actions.names) (length r.0.names);
-    }
+operand_added r c = record c {
+  operands = c.operands ++ r.1 ∷ [];
+  actions = r.0;
+  tells = c.tells || is_loud r.1;
+  acts = c.acts || nat_lt (length c.actions.names) (length r.0.names);
+}
 
 abbrev pub leaf_brought : Settings → List Local → Out → List SourceToken → Leaf → Crowd → Crowd
 leaf_brought settings locals o tokens l c =
@@ -191,8 +190,7 @@ value_heard settings locals o tokens g items c =
     value_symbols g.symbols (value_items settings o.names items (value_leaves settings locals o tokens g.leaves c))
 
 abbrev pub value_brought : Settings → List Local → Out → Unit → Unit
-value_brought settings locals o u =
-    record u { crowd = option_map (value_heard settings locals o u.tokens u.gathering u.items) u.crowd }
+value_brought settings locals o u = record u { crowd = option_map (value_heard settings locals o u.tokens u.gathering u.items) u.crowd }
 
 -- The least finding about the value at hand.
 abbrev pub value_finding_by : Option Crowd → Unit → Option Finding

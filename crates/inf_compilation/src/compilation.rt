@@ -125,7 +125,6 @@ fn no_output<B: Bounds>(
     ))
 }
 
-/// Returns the number of tokens that an expression may have.
 fn longest(context: &Context<'_>) -> usize
     ensures { result ≡ longest (handed context.now) }
 {

@@ -111,7 +111,6 @@ fn tell_leaf<B: Bounds>(
     }
 }
 
-/// Returns whether the code of a function of the system may have a label, or call a routine by its name.
 fn is_loud_function(function: Function) -> bool
     ensures { result ≡ is_loud_function function }
 {
@@ -139,8 +138,7 @@ fn add_operand<B: Bounds>(
     tokens: &UnitTokens,
     leaf: Leaf,
 ) -> Result<(), AllocError>
-    ensures { let before = crowd_of crowd.old in
-        OnOk result (crowd_of crowd.new
+    ensures { let before = crowd_of crowd.old in OnOk result (crowd_of crowd.new
         ≡ operand_added (looked_leaf (listed locals.now) out.now tokens.now leaf before.actions) before) }
 {
     let before = crowd.actions.len();
@@ -185,7 +183,6 @@ fn bring_leaves<B: Bounds>(
     Ok(())
 }
 
-/// Returns the routine that the code of `rule` calls by name, if there is one.
 fn rule_routine(rule: PrintRule) -> Option<Veneer>
     ensures { result ≡ rule_routine rule }
 {

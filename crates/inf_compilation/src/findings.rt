@@ -93,7 +93,6 @@ pub fn many_finding(are_many: bool) -> Option<Finding>
     }
 }
 
-/// Returns the name of a local that is named again, if `repeated` is one.
 fn again_local(repeated: &Option<Repeated>) -> Option<Again>
     ensures { option_map again_as result ≡ again_local (option_map repeated_of repeated.now) }
 {

@@ -118,13 +118,11 @@ impl<B: Bounds> Compilation<B> {
     /// Takes away the locals that the header of a routine named.
     pub fn take_headed(&mut self) -> Headed
         ensures headed { as_headed result ≡ (work self.old).unit.headed }
-        ensures none { let before = work self.old in
-            work self.new ≡ record before { unit = record before.unit { headed = no_locals } } }
+        ensures none { let before = work self.old in work self.new ≡ record before { unit = record before.unit { headed = no_locals } } }
     {
         mem::replace(&mut self.unit.headed, Headed::new())
     }
 
-    /// Returns whether the routine `name` is to be replaced, as it may be in a file that is marked.
     fn is_to_be_replaced(&self, name: &Name) -> bool
         ensures { result ≡ is_to_be_replaced (as_name name.now) (work self.now) }
     {

@@ -33,15 +33,13 @@ front_behind xs ys zs f = record { rest = f.rest; is_cut = ap (λ l. xs ++ l) f.
 
 -- the end is that by equal names of files and an equal compilation
 pub finished_as : (limits : Limits) (serial : List ℕ) (s : State) (names : FileNames) (w : Compilation) → s.nesting.names ≡ names
-    → s.work ≡ w
-    → finished limits serial s.nesting.names s.work ≡ finished limits serial names w
+    → s.work ≡ w → finished limits serial s.nesting.names s.work ≡ finished limits serial names w
 finished_as limits serial s names w named made =
     ap (λ (ns : FileNames). finished limits serial ns s.work) named ∙ ap (λ (x : Compilation). finished limits serial names x) made
 
 -- behind the read part of the veneer, the last messages were written
 pub ends : (limits : Limits) (o : Choices) (serial : List ℕ) (was now : List ℕ → State) (old mid new : Option (List ℕ)) (e : Outcome)
-    (c : Compiled)
-    → Writes (supplied limits o) was now old mid → ((told : List ℕ) → (now told).told ≡ told)
+    (c : Compiled) → Writes (supplied limits o) was now old mid → ((told : List ℕ) → (now told).told ≡ told)
     → ((told : List ℕ) → finished limits serial (now told).nesting.names (now told).work ≡ e) → Delivers e c mid new
     → Ends limits o serial was c old new
 ends limits o serial was now old mid new e c w told_is last d =
@@ -52,8 +50,7 @@ ends limits o serial was now old mid new e c w told_is last d =
     record {
       lines = w.lines ++ e.messages;
       takes = takes_then old mid new w.lines e.messages w.takes d.messages;
-      messages = λ told.
-          ap (λ (e : Outcome). (supplied limits o (was told)).told ++ e.messages) (final told)
+      messages = λ told. ap (λ (e : Outcome). (supplied limits o (was told)).told ++ e.messages) (final told)
           ∙ ap (λ (v : State). v.told ++ e.messages) (sym (w.same told)) ∙ ap (λ l. l ++ e.messages) (told_is (told ++ w.lines))
           ∙ append_assoc told w.lines e.messages;
       story = λ told. d.story ∙ ap (λ (e : Outcome). e.story) (sym (final told));
@@ -62,8 +59,7 @@ ends limits o serial was now old mid new e c w told_is last d =
 
 -- behind the read part of the veneer, the last messages were not all written
 pub breaks_off_last : (limits : Limits) (o : Choices) (serial : List ℕ) (was now : List ℕ → State) (old mid new : Option (List ℕ))
-    (e : Outcome)
-    → Writes (supplied limits o) was now old mid → ((told : List ℕ) → (now told).told ≡ told)
+    (e : Outcome) → Writes (supplied limits o) was now old mid → ((told : List ℕ) → (now told).told ≡ told)
     → ((told : List ℕ) → finished limits serial (now told).nesting.names (now told).work ≡ e) → TakesFront e.messages mid new
     → BreaksOff limits o serial was old new
 breaks_off_last limits o serial was now old mid new e w told_is last t =
@@ -77,8 +73,7 @@ breaks_off_last limits o serial was now old mid new e w told_is last t =
           let whole : (supplied limits o (was told)).told ≡ told ++ w.lines =
           ap (λ (v : State). v.told) (sym (w.same told)) ∙ told_is (told ++ w.lines) in
           subst (λ (e : Outcome). IsFront (told ++ (w.lines ++ t.front)) ((supplied limits o (was told)).told ++ e.messages))
-          (sym (final told))
-          (subst (λ l. IsFront (told ++ (w.lines ++ t.front)) (l ++ e.messages)) (sym whole)
+          (sym (final told)) (subst (λ l. IsFront (told ++ (w.lines ++ t.front)) (l ++ e.messages)) (sym whole)
           (subst (λ l. IsFront l ((told ++ w.lines) ++ e.messages)) (append_assoc told w.lines t.front)
           (front_behind (told ++ w.lines) t.front e.messages t.begins)));
     }
@@ -91,8 +86,7 @@ breaks_off limits o serial was old new cut = record {
   takes = cut.takes;
   begins = λ told.
       let v = supplied limits o (was told) in
-      front_then {ys = v.told} (cut.begins told)
-      (front_more v.told (finished limits serial v.nesting.names v.work).messages);
+      front_then {ys = v.told} (cut.begins told) (front_more v.told (finished limits serial v.nesting.names v.work).messages);
 }
 
 -- the veneer is supplied whatever the files are
@@ -154,11 +148,9 @@ breaks_off_at (Err fault) limits o serial was old new sources start opened h = h
 
 -- behind reading to the end, the messages of the ending were written
 pub concludes : (limits : Limits) (sources : Sources) (o : Choices) (serial : List ℕ) (was now : List ℕ → State) (start after : Openings)
-    (f : Open)
-    (old mid new : Option (List ℕ)) (turns : ℕ) (c : Compiled)
+    (f : Open) (old mid new : Option (List ℕ)) (turns : ℕ) (c : Compiled)
     → Writes (run limits sources o turns) was now old mid → ((told : List ℕ) → has_ended (now told) ≡ true)
-    → IsNested start after f → ((told : List ℕ) → (now told).nesting ≡ nesting sources start after f)
-    → Ends limits o serial now c mid new
+    → IsNested start after f → ((told : List ℕ) → (now told).nesting ≡ nesting sources start after f) → Ends limits o serial now c mid new
     → Concludes limits sources o serial (was []) start after f old new c
 concludes limits sources o serial was now start after f old mid new turns c w over nested files d = record {
   final = now w.lines;
@@ -174,8 +166,7 @@ concludes limits sources o serial was now start after f old mid new turns c w ov
 
 -- reading was given up, and a front of the messages was written
 pub stops_reading : (limits : Limits) (sources : Sources) (o : Choices) (serial : List ℕ) (was : List ℕ → State) (old new : Option (List ℕ))
-    (turns : ℕ)
-    → CutsShort (run limits sources o turns) was old new → Stops limits sources o serial (was []) old new
+    (turns : ℕ) → CutsShort (run limits sources o turns) was old new → Stops limits sources o serial (was []) old new
 stops_reading limits sources o serial was old new turns cut = record {
   front = cut.front;
   takes = cut.takes;
@@ -201,16 +192,14 @@ stops_none limits sources o serial s old = record {
 
 -- the source was read, and the messages behind its reading were not all written
 pub stops_ending : (limits : Limits) (sources : Sources) (o : Choices) (serial : List ℕ) (was now : List ℕ → State)
-    (old mid new : Option (List ℕ))
-    (turns : ℕ)
+    (old mid new : Option (List ℕ)) (turns : ℕ)
     → Writes (run limits sources o turns) was now old mid → ((told : List ℕ) → has_ended (now told) ≡ true)
     → BreaksOff limits o serial now mid new → Stops limits sources o serial (was []) old new
 stops_ending limits sources o serial was now old mid new turns w over t = record {
   front = w.lines ++ t.front;
   takes = takes_then old mid new w.lines t.front w.takes t.takes;
   begins = λ final read.
-      let s = was [] in
-      let here : run limits sources o turns s ≡ now w.lines = sym (w.same []) in
+      let s = was [] in let here : run limits sources o turns s ≡ now w.lines = sym (w.same []) in
       let same : now w.lines ≡ final =
       sym here ∙ same_end limits sources o turns read.turns s (ap has_ended here ∙ over w.lines) (ap has_ended read.leads ∙ read.ends)
       ∙ read.leads in
@@ -260,14 +249,12 @@ pub early_ending : {B : Type 0} (limits : Limits) (sources : Sources) (o : Choic
     → SuppliesPart limits o session mid new → StopsEarly limits sources o (was []) old new
 unfolding SuppliesPart
 early_ending limits sources o was session start opened old mid new turns w over part =
-    let now = state sources start opened session in
-    let t = part sources start opened in
+    let now = state sources start opened session in let t = part sources start opened in
     record {
       front = w.lines ++ t.front;
       takes = takes_then old mid new w.lines t.front w.takes t.takes;
       begins = λ final read.
-          let s = was [] in
-          let here : run limits sources o turns s ≡ now w.lines = sym (w.same []) in
+          let s = was [] in let here : run limits sources o turns s ≡ now w.lines = sym (w.same []) in
           let same : now w.lines ≡ final =
           sym here ∙ same_end limits sources o turns read.turns s (ap has_ended here ∙ over w.lines) (ap has_ended read.leads ∙ read.ends)
           ∙ read.leads in
@@ -353,18 +340,17 @@ opened_of (Some source) s o name old new there w = w
 -- the bytes in view of an open file are those given of it and not taken
 near_one : (s : Sources) (o : Opening) (view : View) → IsFrontOf s o → IsCounted s o view →
     length o.given + length (rest_of s o view) ≤ length (unwrap_or (s o.name) []) + 4096
-near_one s o view front counted = by_over view.is_over refl
-  where
-    whole : length (unwrap_or (s o.name) []) ≡ length o.given + length (unread_of s o)
-    whole = ap length front ∙ omega (arith, length-append o.given (unread_of s o))
+near_one s o view front counted = by_over view.is_over refl where
+  whole : length (unwrap_or (s o.name) []) ≡ length o.given + length (unread_of s o)
+  whole = ap length front ∙ omega (arith, length-append o.given (unread_of s o))
 
-    by_over : (b : Bool) → view.is_over ≡ b → length o.given + length (rest_of s o view) ≤ length (unwrap_or (s o.name) []) + 4096
-    by_over true e =
-        let rest : rest_of s o view ≡ view.left ++ [] = ap (λ (b : Bool). view.left ++ cond b [] (unread_of s o)) e in
-        omega (arith, whole, counted.window, ap length rest, length-append view.left [])
-    by_over false e =
-        let rest : rest_of s o view ≡ view.left ++ unread_of s o = ap (λ (b : Bool). view.left ++ cond b [] (unread_of s o)) e in
-        omega (arith, whole, counted.window, ap length rest, length-append view.left (unread_of s o))
+  by_over : (b : Bool) → view.is_over ≡ b → length o.given + length (rest_of s o view) ≤ length (unwrap_or (s o.name) []) + 4096
+  by_over true e =
+      let rest : rest_of s o view ≡ view.left ++ [] = ap (λ (b : Bool). view.left ++ cond b [] (unread_of s o)) e in
+      omega (arith, whole, counted.window, ap length rest, length-append view.left [])
+  by_over false e =
+      let rest : rest_of s o view ≡ view.left ++ unread_of s o = ap (λ (b : Bool). view.left ++ cond b [] (unread_of s o)) e in
+      omega (arith, whole, counted.window, ap length rest, length-append view.left (unread_of s o))
 
 near_places : (s : Sources) (n : ℕ) (names : List (List ℕ)) (all : List Opening) (places : List ℕ) (files : List OpenFile) →
     Each (IsFrontOf s) n all → (bound : ℕ)
@@ -404,8 +390,7 @@ near_all s old now f n g =
 
 -- the openings of open files are at their places
 at_places : (s : Sources) (n bound : ℕ) (names : List (List ℕ)) (all : List Opening) (places : List ℕ) (readers : List Reader) →
-    AreNested bound places readers
-    → AreTracked s n names all places readers → AreAt n bound names all places (files_of readers)
+    AreNested bound places readers → AreTracked s n names all places readers → AreAt n bound names all places (files_of readers)
 at_places s n bound names all places [] nested tracked = tt
 at_places s n bound names all [] (r ∷ readers) nested tracked = absurd nested
 at_places s n bound names all (p ∷ places) (r ∷ readers) nested tracked =
@@ -419,8 +404,7 @@ at_all s old now f n g = at_places s (length old.all) (length now.all) f.nest.na
 pub comes_of : (s : Sources) (o : Choices) (serial name : List ℕ) (old now new : Openings) (f : Open) (was : State)
     (before after : Option (List ℕ)) (c : Compiled)
     → (s name ≡ None → ⊥) → was ≡ start s o name → new ≡ closed_to old now → AllGiven s (length old.all) now f → Each Fits (length old.all)
-    now.all
-    → Concludes (limits_of o.settings) s o serial was old now f before after c → Comes s o serial name old new before after c
+    now.all → Concludes (limits_of o.settings) s o serial was old now f before after c → Comes s o serial name old new before after c
 comes_of s o serial name old now new f was before after c there begun closed given fit k =
     let n : ℕ = length old.all in
     let read : IsRead (limits_of o.settings) s o (start s o name) k.final =
@@ -494,8 +478,7 @@ begun_is s o old now n x told files at going none unquoted unpassed =
     ∙ ap (λ (p : ReaderState). made n x.conditionals p x.is_over x.quoted x.passed) stands
     ∙ ap (λ (b : Bool). made n x.conditionals front b x.quoted x.passed) going
     ∙ ap (λ (c : Conditions). made n c front false x.quoted x.passed) none
-    ∙ ap (λ (k : ℕ). made n no_conditions front false k x.passed) unquoted
-    ∙ ap (λ (k : ℕ). made n no_conditions front false 0 k) unpassed
+    ∙ ap (λ (k : ℕ). made n no_conditions front false k x.passed) unquoted ∙ ap (λ (k : ℕ). made n no_conditions front false 0 k) unpassed
   where
     made : Nesting → Conditions → ReaderState → Bool → ℕ → ℕ → State
     made m c p b q k = record {

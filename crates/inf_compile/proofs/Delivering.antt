@@ -1,57 +1,29 @@
 -- The bytes that a story's sink takes of a compiled story.
-use Rattle.std.proofs.Common.{Result, Ok, Err, IfOk, IfErr, OnOk, MatchResult, option_map, ◌≡◌, ◌==◌, inl, inr, ℕ, Bool, true, false, cond}
+use Rattle.std.proofs.Common.{Result, Ok, Err, IfOk, IfErr, OnOk, MatchResult, option_map, ◌≡◌, ◌==◌, inl, inr, ℕ, true, false, cond}
 use Rattle.std.proofs.Common.{List, [], ◌∷◌, codes, length, Option, Some, None, refl, ap, subst, sym, ◌∙◌}
 use Rattle.std.proofs.Math.Dec.{eqb-suc-zero}
 use Rattle.inf_devices.specs.{Files.Openings, Files.Sources, Sinks.Takes}
 use Rattle.inf_session.specs.{Choices.Choices, Session.State}
 use Rattle.inf_compile.specs.Comes.{Begins, Comes, OpenedBy, OpenedPart}
-use Rattle.inf_compile.specs.Compiling.{Compiles, DeliversPart, HasCause, OnlyStory, TakesClean, TakesPart, TakesStory, named_by}
+use Rattle.inf_compile.specs.Compiling.{Compiles, HasCause, OnlyStory, TakesClean, TakesPart, TakesStory, named_by}
 use Rattle.inf_compile.specs.Compiling.{IfMemory, no_sources}
-use Rattle.inf_ending.specs.{Ending.Outcome, Ending.missing, Faults.Caused, Faults.IfRead, Faults.IfStory, Faults.UnlessStory}
+use Rattle.inf_ending.specs.{Ending.Outcome, Ending.missing, Faults.IfRead, Faults.IfStory, Faults.UnlessStory}
 use Rattle.inf_ending.specs.{declared.compiled.Compiled.Compiled, declared.compiled.Status.Status, declared.faults.Fault.Fault}
 use Rattle.inf_ending.specs.Delivered.{IsFront, EndsClean, SucceedsClean, TakesFront, story_in}
 use Rattle.inf_session.proofs.Leadings.{front_same}
 use Rattle.inf_compile.proofs.OutcomeLaws.{outcomes_are_unique}
 use Rattle.inf_command.specs.FileNames.{source_name}
 
--- A compilation whose story was taken whole has compiled.
-pub compiles : (s : Sources) (o : Choices) (serial name : List ℕ) (old new : Openings) (before after story_old story_new : Option (List ℕ))
-    (c : Compiled) (status : Status)
-    → Comes s o serial name old new before after c → status ≡ c.status → TakesStory (story_in c) story_old story_new
-    → Compiles s o serial name status before after story_old story_new
-compiles s o serial name old new before after story_old story_new c status k is taken = record {
-  ending = k.ending;
-  is_outcome = k.is_outcome;
-  status_is = is ∙ k.delivers.status;
-  messages = k.delivers.messages;
-  story = subst (λ (x : Option (List ℕ)). TakesStory x story_old story_new) k.delivers.story taken;
-}
-
--- A compilation of whose story a part was taken has delivered that part.
-pub delivers_part : (s : Sources) (o : Choices) (serial name : List ℕ) (old new : Openings)
-    (before after story_old story_new : Option (List ℕ)) (c : Compiled) (n : ℕ)
-    → Comes s o serial name old new before after c → TakesPart (story_in c) n story_old story_new → DeliversPart s o serial name n before
-    after story_old story_new
-delivers_part s o serial name old new before after story_old story_new c n k taken = record {
-  ending = k.ending;
-  is_outcome = k.is_outcome;
-  messages = k.delivers.messages;
-  story = subst (λ (x : Option (List ℕ)). TakesPart x n story_old story_new) k.delivers.story taken;
-}
-
 -- All messages are a front of those of the outcome, which is the only one.
 pub begins_whole : (s : Sources) (o p : Choices) (serial name other : List ℕ) (old new : Openings) (before after : Option (List ℕ))
-    (c : Compiled)
-    → o ≡ p → name ≡ other → Comes s o serial name old new before after c → Begins s p serial other before after
+    (c : Compiled) → o ≡ p → name ≡ other → Comes s o serial name old new before after c → Begins s p serial other before after
 begins_whole s o p serial name other old new before after c same named k =
     subst (λ (x : Choices). Begins s x serial other before after) same
     (subst (λ (n : List ℕ). Begins s o serial n before after) named (record {
       front = k.ending.messages;
       takes = k.delivers.messages;
-      begins = λ e outcome.
-          subst (λ (x : Outcome). IsFront k.ending.messages x.messages)
-          (outcomes_are_unique s o serial name k.ending e k.is_outcome outcome)
-          (front_same k.ending.messages);
+      begins = λ e outcome. subst (λ (x : Outcome). IsFront k.ending.messages x.messages)
+          (outcomes_are_unique s o serial name k.ending e k.is_outcome outcome) (front_same k.ending.messages);
     }))
 
 -- All openings of the reading are those of its turns.
@@ -66,20 +38,15 @@ opened_by (Some source) s o name old new w = inr (record {
 })
 
 pub opened_whole : (s : Sources) (o p : Choices) (serial name other : List ℕ) (old new : Openings) (before after : Option (List ℕ))
-    (c : Compiled)
-    → o ≡ p → name ≡ other → Comes s o serial name old new before after c → OpenedPart s p other old new
-opened_whole s o p serial name other old new before after c same named k =
-    subst (λ (x : Choices). OpenedPart s x other old new) same
+    (c : Compiled) → o ≡ p → name ≡ other → Comes s o serial name old new before after c → OpenedPart s p other old new
+opened_whole s o p serial name other old new before after c same named k = subst (λ (x : Choices). OpenedPart s x other old new) same
     (subst (λ (n : List ℕ). OpenedPart s o n old new) named (opened_by (s name) s o name old new k.opened))
 
 -- where a story came, whole or in part, it is that of some work of which no error was counted
 pub clean_where_delivered : (serial : List ℕ) (P : ℕ → Type 0) (r : Result Status Fault) (c : Compiled)
-    (before after story_old story_new : Option (List ℕ)) →
-    IfOk r (λ s. s ≡ c.status)
-    → OnOk r (TakesStory (story_in c) story_old story_new)
+    (before after story_old story_new : Option (List ℕ)) → IfOk r (λ s. s ≡ c.status) → OnOk r (TakesStory (story_in c) story_old story_new)
     → IfErr r (λ fault. OnlyStory fault (λ n. P n × TakesPart (story_in c) n story_old story_new)) →
-    (c.status ≡ Status.Errors → c.story ≡ None)
-    → SucceedsClean serial c before after
+    (c.status ≡ Status.Errors → c.story ≡ None) → SucceedsClean serial c before after
     → MatchResult r (λ s. s ≡ Status.Success → TakesClean serial (λ bytes. Takes story_old story_new bytes) before after)
     (λ fault. IfStory fault (λ n. TakesClean serial (λ bytes. TakesPart (Some bytes) n story_old story_new) before after))
 clean_where_delivered serial P (Ok s) c before after story_old story_new is whole told none clean = λ success.
@@ -92,37 +59,17 @@ clean_where_delivered serial P (Ok s) c before after story_old story_new is whol
 clean_where_delivered serial P (Err Fault.Memory) c before after story_old story_new is whole told none clean = tt
 clean_where_delivered serial P (Err (Fault.Read name)) c before after story_old story_new is whole told none clean = tt
 clean_where_delivered serial P (Err Fault.Messages) c before after story_old story_new is whole told none clean = tt
-clean_where_delivered serial P (Err (Fault.Story n)) c before after story_old story_new is whole told none clean =
-    by_status c.status refl
+clean_where_delivered serial P (Err (Fault.Story n)) c before after story_old story_new is whole told none clean = by_status c.status refl
   where
     with_part : (o : Option (List ℕ)) → TakesPart o n story_old story_new → EndsClean serial o before after
         → TakesClean serial (λ bytes. TakesPart (Some bytes) n story_old story_new) before after
     with_part None taken ends = absurd taken
     with_part (Some bytes) taken ends = record { story = bytes; is_taken = taken; ends = ends }
 
-    by_status : (s : Status) → c.status ≡ s →
-        TakesClean serial (λ bytes. TakesPart (Some bytes) n story_old story_new) before after
+    by_status : (s : Status) → c.status ≡ s → TakesClean serial (λ bytes. TakesPart (Some bytes) n story_old story_new) before after
     by_status Status.Success e = with_part (story_in c) told.1 (clean e)
     by_status Status.Errors e =
         absurd (subst (λ (o : Option (List ℕ)). TakesPart o n story_old story_new) (ap (option_map (λ v. v.items)) (none e)) told.1)
-
--- a fault before the story, and one of its sink
-pub caused_before : {T : Type 0} (r : Result T Fault) (P : List ℕ → Type 0) (A : Type 0) (R : ℕ → Type 0) → IfErr r (λ f. Caused f P A) →
-    IfErr r (λ f. HasCause f P A R)
-caused_before (Ok x) P A R h = tt
-caused_before (Err Fault.Memory) P A R h = tt
-caused_before (Err (Fault.Read name)) P A R h = h
-caused_before (Err Fault.Messages) P A R h = h
-caused_before (Err (Fault.Story n)) P A R h = absurd h
-
-pub caused_behind : {T : Type 0} (r : Result T Fault) (P : List ℕ → Type 0) (A : Type 0) (R X : ℕ → Type 0) →
-    IfErr r (λ f. OnlyStory f (λ n. R n × X n))
-    → IfErr r (λ f. HasCause f P A R)
-caused_behind (Ok x) P A R X h = tt
-caused_behind (Err Fault.Memory) P A R X h = tt
-caused_behind (Err (Fault.Read name)) P A R X h = absurd h
-caused_behind (Err Fault.Messages) P A R X h = absurd h
-caused_behind (Err (Fault.Story n)) P A R X h = h.0
 
 -- An empty word names no file
 
@@ -146,20 +93,12 @@ refused_compiles (b ∷ word) date s o r before after story_old story_new e is t
 
 pub refused_begins : (word date : List ℕ) (s : Sources) (o : Choices) (before after : Option (List ℕ)) → (length word == 0) ≡ true
     → TakesFront (missing (codes ".inf")).messages before after → Begins (named_by word s) o date (source_name word) before after
-refused_begins [] date s o before after e t =
-    record {
-      front = t.front;
-      takes = t.takes;
-      begins = λ x outcome. subst (λ (y : Outcome). IsFront t.front y.messages) (sym outcome)
-          t.begins;
-    }
+refused_begins [] date s o before after e t = record {
+  front = t.front;
+  takes = t.takes;
+  begins = λ x outcome. subst (λ (y : Outcome). IsFront t.front y.messages) (sym outcome) t.begins;
+}
 refused_begins (b ∷ word) date s o before after e t = absurd (no_bytes b word e)
-
--- For an empty word nothing is opened.
-pub refused_opens : (word : List ℕ) (s : Sources) (o : Choices) (old : Openings) → (length word == 0) ≡ true
-    → OpenedBy (named_by word s (source_name word)) (named_by word s) o (source_name word) old old
-refused_opens [] s o old e = refl
-refused_opens (b ∷ word) s o old e = absurd (no_bytes b word e)
 
 -- no fault of it is one of reading or of the story
 pub none_read : (fault : Fault) (writing : Type 0) (P : List ℕ → Type 0) → HasCause fault (λ name. ⊥) writing (λ n. ⊥) → IfRead fault P
@@ -181,8 +120,7 @@ more_caused (Fault.Read name) writing P Q cause = absurd cause
 more_caused Fault.Messages writing P Q cause = cause
 more_caused (Fault.Story n) writing P Q cause = absurd cause
 
-pub unfailed_always : (fault : Fault) (story : Option (List ℕ)) (failures : ℕ) → UnlessStory fault
-    ((story ≡ story) × (failures ≡ failures))
+pub unfailed_always : (fault : Fault) (story : Option (List ℕ)) (failures : ℕ) → UnlessStory fault ((story ≡ story) × (failures ≡ failures))
 unfailed_always Fault.Memory story failures = (refl, refl)
 unfailed_always (Fault.Read name) story failures = (refl, refl)
 unfailed_always Fault.Messages story failures = (refl, refl)
@@ -193,8 +131,7 @@ no_success r P is success = let never : Status.Errors ≡ Status.Success = sym i
 
 -- An empty word ends in no success.
 pub none_clean : (r : Result Status Fault) (writing A : Type 0) (B : ℕ → Type 0) → IfOk r (λ s. s ≡ Status.Errors) →
-    IfErr r (λ fault. HasCause fault (λ name. ⊥) writing (λ n. ⊥))
-    → MatchResult r (λ s. s ≡ Status.Success → A) (λ fault. IfStory fault B)
+    IfErr r (λ fault. HasCause fault (λ name. ⊥) writing (λ n. ⊥)) → MatchResult r (λ s. s ≡ Status.Success → A) (λ fault. IfStory fault B)
 none_clean (Ok s) writing A B is cause = λ success. no_success s A is success
 none_clean (Err fault) writing A B is cause = none_told fault writing B cause
 

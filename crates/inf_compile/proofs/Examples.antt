@@ -42,15 +42,13 @@ empty_source serial = record { final = _; is_read = record { turns = 10; leads =
 pub text_is_missing : TextIsMissing
 unfolding digits more units.order units.next_place output.laid output.instruction output.behind meaning.call_of parts.calling
     statements.statement_in effects.statement_laid effects.statement_finding work_parts.part_effect language.grammar language.known
-    atoms.keyword_of words.keywords
-    system.system_names veneer.all_names
+    atoms.keyword_of words.keywords system.system_names veneer.all_names
 text_is_missing serial = record { final = _; is_read = record { turns = 20; leads = refl; ends = refl }; is_ending = refl }
 
 pub names_are_undeclared : NamesAreUndeclared
 unfolding digits more units.order units.next_place output.laid output.instruction output.behind meaning.call_of parts.calling
     statements.statement_in effects.statement_laid effects.statement_finding work_parts.part_effect language.grammar language.known
-    atoms.keyword_of words.keywords
-    system.system_names veneer.all_names
+    atoms.keyword_of words.keywords system.system_names veneer.all_names
 names_are_undeclared serial = record { final = _; is_read = record { turns = 40; leads = refl; ends = refl }; is_ending = refl }
 
 pub files_are_included : FilesAreIncluded
@@ -97,8 +95,7 @@ unfolding packed longest character_zs tables.three_spaces tables.abbreviations p
 plain_size = refl
 
 hello_size : (map_of (cells_sizes (tables.areas 8 hello_code [] no_tables)) Scale.Four).end ≡ 976
-hello_size =
-    ap (λ (cells : Areas (List Cell)). (map_of (cells_sizes cells) Scale.Four).end) (tables_are_plain 8 hello_code []) ∙ plain_size
+hello_size = ap (λ (cells : Areas (List Cell)). (map_of (cells_sizes cells) Scale.Four).end) (tables_are_plain 8 hello_code []) ∙ plain_size
 
 pub hello_is_a_story : HelloIsAStory
 unfolding digits more text_of piece_at escape_piece spelled spellings zscii_of zscii_of_unicode accented packed longest character_zs

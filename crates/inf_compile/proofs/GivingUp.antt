@@ -36,11 +36,10 @@ counted_at_front set limit main old new opened front =
 -- where the innermost lexer was given too many bytes, the reader counts an opening more that is too long
 long_given : (base : ℕ) (now : Open) (c : Counts) → AreCounted base (given_each now) c.each c.too_long
     → most_source_bytes < now.lexer.window.given → min (base + 1) last_count ≤ c.too_long
-long_given base now c counted over = by_each c.each counted
-  where
-    by_each : (each : List ℕ) → AreCounted base (given_each now) each c.too_long → min (base + 1) last_count ≤ c.too_long
-    by_each [] h = absurd h
-    by_each (n ∷ outer) h = h.0.1 (omega (arith, h.0.0, over))
+long_given base now c counted over = by_each c.each counted where
+  by_each : (each : List ℕ) → AreCounted base (given_each now) each c.too_long → min (base + 1) last_count ≤ c.too_long
+  by_each [] h = absurd h
+  by_each (n ∷ outer) h = h.0.1 (omega (arith, h.0.0, over))
 
 -- A file was not read, between the moment when the main source was entered and that when all were closed.
 pub unread_by : {S : Type 0} (f : Files S) (first entered read last : S) (main now : Open) → Kept f first entered →
@@ -61,8 +60,7 @@ unread_by f first entered read last main now kept counted opened went closed sam
 
 -- Reading was given up in a token.
 stops_reading_of : (failed : Type 0) (s : Sources) (t : State) (old now new : Openings) (f : Open) (told : List ℕ) → new.all ≡ now.all →
-    IsNested old now f
-    → AllGiven s (length old.all) now f → StopsInToken failed s t old now f told → StopsReading failed s t old new told
+    IsNested old now f → AllGiven s (length old.all) now f → StopsInToken failed s t old now f told → StopsReading failed s t old new told
 stops_reading_of failed s t old now new f told all nested given h =
     let n : ℕ = length old.all in
     let at = innermost_of (length now.all) (reverse now.open_places) f.lexer (lexers_of (reverse f.outer)) nested.nested in
@@ -94,8 +92,7 @@ stops_reading_of failed s t old now new f told all nested given h =
     }
 
 stops_of : (limits : Limits) (failed : Type 0) (s : Sources) (o : Choices) (t : State) (old now new : Openings) (f : Open) (told : List ℕ) →
-    new.all ≡ now.all → IsNested old now f
-    → AllGiven s (length old.all) now f → StopsFor limits failed s o t old now f told
+    new.all ≡ now.all → IsNested old now f → AllGiven s (length old.all) now f → StopsFor limits failed s o t old now f told
     → StopsReading failed s t old new told ⊎ StopsAtInclusion failed s o (stepped limits o t) (opened_since old new) told
 stops_of limits failed s o t old now new f told all nested given (inl h) =
     inl (stops_reading_of failed s t old now new f told all nested given h)
@@ -107,9 +104,7 @@ stops_of limits failed s o t old now new f told all nested given (inr h) =
 heard_of : (failed : Type 0) (s : Sources) (o : Choices) (name : List ℕ) (was : List ℕ → State) (old now new : Openings) (f : Open)
     (before after : Option (List ℕ)) (told : List ℕ)
     → was [] ≡ start s o name → new.all ≡ now.all → IsNested old now f → AllGiven s (length old.all) now f → GivenUp (limits_of o.settings)
-    failed s o was before
-    after old now f told
-    → Heard failed s o name old new before after told
+    failed s o was before after old now f told → Heard failed s o name old new before after told
 heard_of failed s o name was old now new f before after told begun all nested given g = inr (inr (record {
   turns = g.turns;
   takes = subst (λ (x : State). Takes before after (run (limits_of o.settings) s o g.turns x).told) begun
@@ -145,8 +140,7 @@ heard_from r failed s o name front was old now new f before after at alone named
 
 -- reading that was given up for a cause was given up for a wider one
 given_up_more : (limits : Limits) (failed more : Type 0) (s : Sources) (o : Choices) (was : List ℕ → State) (old new : Option (List ℕ))
-    (start now : Openings)
-    (f : Open) (told : List ℕ) → (failed → more)
+    (start now : Openings) (f : Open) (told : List ℕ) → (failed → more)
     → GivenUp limits failed s o was old new start now f told → GivenUp limits more s o was old new start now f told
 given_up_more limits failed more s o was old new start now f told later g = record {
   turns = g.turns;
@@ -156,8 +150,7 @@ given_up_more limits failed more s o was old new start now f told later g = reco
 }
 
 pub given_up_between : {T : Type 0} (limits : Limits) (r : Result T Fault) (failed more : Type 0) (s : Sources) (o : Choices)
-    (was : List ℕ → State)
-    (old new : Option (List ℕ)) (start now : Openings) (f : Open)
+    (was : List ℕ → State) (old new : Option (List ℕ)) (start now : Openings) (f : Open)
     → (failed → more) → IfErr r (λ x. IfRead x (λ told. GivenUp limits failed s o was old new start now f told)) → IfErr r
     (λ x. IfRead x (λ told. GivenUp limits more s o was old new start now f told))
 given_up_between limits r failed more s o was old new start now f later g =
@@ -193,26 +186,22 @@ given_up_from_between limits r failed more s o front was old new start now f lat
 
 -- before the first turn nothing is written
 pub heard_none : (failed : Type 0) (s : Sources) (o : Choices) (name : List ℕ) (old new : Openings) (before after : Option (List ℕ))
-    (told : List ℕ) → failed → new ≡ old → after ≡ before
-    → told ≡ name → Heard failed s o name old new before after told
-heard_none failed s o name old new before after told cause same e is =
-    inl (record {
-      cause = cause;
-      opened = same;
-      takes = subst (λ (n : Option (List ℕ)). Takes before n []) (sym e) (takes_none before);
-      name_is = is;
-    })
+    (told : List ℕ) → failed → new ≡ old → after ≡ before → told ≡ name → Heard failed s o name old new before after told
+heard_none failed s o name old new before after told cause same e is = inl (record {
+  cause = cause;
+  opened = same;
+  takes = subst (λ (n : Option (List ℕ)). Takes before n []) (sym e) (takes_none before);
+  name_is = is;
+})
 
 -- the openings where reading was given up
 pub opened_some : (s : Sources) (o : Choices) (name : List ℕ) (old now new : Openings) (f : Open) (was : List ℕ → State) (turns : ℕ) →
     was [] ≡ start s o name
     → new ≡ closed_to old now → AllGiven s (length old.all) now f → OpensAll (run (limits_of o.settings) s o turns) was
-    (opened_since old now) → OpenedSome s o
-    name old new
+    (opened_since old now) → OpenedSome s o name old new
 opened_some s o name old now new f was turns begun closed given h = record {
   turns = turns;
-  names =
-      ap (λ (p : Openings). opened_since old p) closed ∙ h []
+  names = ap (λ (p : Openings). opened_since old p) closed ∙ h []
       ∙ ap (λ (x : State). (run (limits_of o.settings) s o turns x).nesting.openings) begun;
   closed = ap (λ (p : Openings). p.open_places) closed;
   each = subst (λ (p : Openings). Each (IsFrontOf s) (length old.all) p.all) (sym closed) given.each;

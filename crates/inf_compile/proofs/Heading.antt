@@ -28,8 +28,7 @@ use Rattle.inf_command.specs.Words.{Choice}
 -- a statement of the files behind a call holds of those before it
 pub behind_call : {S : Type 0} (f : Files S) (a b : S) (x y : Open) (P : Sources → Openings → Type 0) → Went f a b x y
     → Honestly f b y (λ start. P (f.sources b) start) → Honestly f a x (λ start. P (f.sources a) start)
-behind_call f a b x y P went h = λ honest start nested.
-    subst (λ (s : Sources). P s start) went.sources
+behind_call f a b x y P went h = λ honest start nested. subst (λ (s : Sources). P s start) went.sources
     (h (subst (λ t. IsTrue t) (sym went.honesty) honest) start (went.nested honest start nested))
 
 -- The words taken of the head of a file, and those left in its rest, make up the head; the rest behind it is that of the file.
@@ -64,69 +63,62 @@ behind_last (suc n) h = behind_last n (behind_word h)
 -- a head that goes on with a word has this word and those behind it
 word_next : (n : ℕ) (p : HeadPlace) (c : Cursor) → (read_head p c).is_word ≡ true → head_within (suc n) p c.lines c.rest
     ≡ with_head_word (read_head p c).word (head_within n (read_head p c).place (read_head p c).lines (read_head p c).rest)
-word_next n p c e =
-    ap (λ (b : Bool). cond b
+word_next n p c e = ap (λ (b : Bool). cond b
     (with_head_word (read_head p c).word (head_within n (read_head p c).place (read_head p c).lines (read_head p c).rest))
     (record { words = []; lines = (read_head p c).lines; rest = (read_head p c).rest })) e
 
 -- a head that goes on with no word ends
 word_none : (n : ℕ) (p : HeadPlace) (c : Cursor) → (read_head p c).is_word ≡ false → head_within (suc n) p c.lines c.rest
     ≡ record { words = []; lines = (read_head p c).lines; rest = (read_head p c).rest }
-word_none n p c e =
-    ap (λ (b : Bool). cond b
+word_none n p c e = ap (λ (b : Bool). cond b
     (with_head_word (read_head p c).word (head_within n (read_head p c).place (read_head p c).lines (read_head p c).rest))
     (record { words = []; lines = (read_head p c).lines; rest = (read_head p c).rest })) e
 
 -- a word of the head takes bytes
-takes_one : (p : HeadPlace) (c : Cursor) → is_word p ≡ false → (read_head p c).is_word ≡ true
-    → length (read_head p c).rest < length c.rest
+takes_one : (p : HeadPlace) (c : Cursor) → is_word p ≡ false → (read_head p c).is_word ≡ true → length (read_head p c).rest < length c.rest
 takes_one p c none is = words_take p [] c.lines c.rest none is
 
 -- behind the next word the taken words and the words left make up the head
 pub leads_on : (first was now : Nesting) (from at : HeadPlace) (head : HeadWords) (word : List ℕ) → Leads first was from head
     → is_word from ≡ false → ReadsHead true at word from was now → Leads first now at (take_head_word head word)
-leads_on first was now from at head word l none r = by l.left l.enough l.says l.lines l.rest
-  where
-    c : Cursor
-    c = was.cursor
+leads_on first was now from at head word l none r = by l.left l.enough l.says l.lines l.rest where
+  c : Cursor
+  c = was.cursor
 
-    is : (read_head from c).is_word ≡ true
-    is = sym r.tells
+  is : (read_head from c).is_word ≡ true
+  is = sym r.tells
 
-    next : now.cursor ≡ behind_head c (read_head from c)
-    next = ap (λ (n : Nesting). n.cursor) r.goes_on
+  next : now.cursor ≡ behind_head c (read_head from c)
+  next = ap (λ (n : Nesting). n.cursor) r.goes_on
 
-    less : length now.cursor.rest < length c.rest
-    less = omega (arith, ap (λ (x : Cursor). length x.rest) next, takes_one from c none is)
+  less : length now.cursor.rest < length c.rest
+  less = omega (arith, ap (λ (x : Cursor). length x.rest) next, takes_one from c none is)
 
-    whole : (n : ℕ) → head_within (suc n) from c.lines c.rest
-        ≡ with_head_word word (head_within n at now.cursor.lines now.cursor.rest)
-    whole n =
-        word_next n from c is
-        ∙ ap (λ (w : List ℕ). with_head_word w (head_within n (read_head from c).place (read_head from c).lines (read_head from c).rest))
-        (sym r.spelled)
-        ∙ ap (λ (p : HeadPlace). with_head_word word (head_within n p (read_head from c).lines (read_head from c).rest)) (sym r.goes_to)
-        ∙ ap (λ (x : Cursor). with_head_word word (head_within n at x.lines x.rest)) (sym next)
+  whole : (n : ℕ) → head_within (suc n) from c.lines c.rest ≡ with_head_word word (head_within n at now.cursor.lines now.cursor.rest)
+  whole n = word_next n from c is
+      ∙ ap (λ (w : List ℕ). with_head_word w (head_within n (read_head from c).place (read_head from c).lines (read_head from c).rest))
+      (sym r.spelled)
+      ∙ ap (λ (p : HeadPlace). with_head_word word (head_within n p (read_head from c).lines (read_head from c).rest)) (sym r.goes_to)
+      ∙ ap (λ (x : Cursor). with_head_word word (head_within n at x.lines x.rest)) (sym next)
 
-    by : (left : ℕ) → length c.rest < left → head_from head (head_within left from c.lines c.rest).words
-        ≡ head_of (head_in first.cursor).words → (head_within left from c.lines c.rest).lines ≡ (head_in first.cursor).lines
-        → (head_within left from c.lines c.rest).rest ≡ (head_in first.cursor).rest → Leads first now at (take_head_word head word)
-    by zero enough says lines rest = absurd (omega (arith, enough))
-    by (suc n) enough says lines rest = record {
-      words = suc l.words;
-      there_are = behind_last l.words (head_front first.cursor) ∙ ap behind_word l.there_are
-          ∙ ap (λ (p : HeadPlace). head_at p (behind_head c (read_head from c))) (sym r.goes_to)
-          ∙ ap (λ (x : Cursor). head_at at x) (sym next);
-      left = n;
-      enough = omega (arith, enough, less);
-      says = ap (λ (h : WholeHead). head_from head h.words) (sym (whole n)) ∙ says;
-      lines = ap (λ (h : WholeHead). h.lines) (sym (whole n)) ∙ lines;
-      rest = ap (λ (h : WholeHead). h.rest) (sym (whole n)) ∙ rest;
-      nest = r.goes_on
-          ∙ ap (λ (x : Nesting). record x { cursor = record x.cursor { rest = (read_head from c).rest; lines = (read_head from c).lines } })
-          l.nest
-          ∙ ap (λ (x : Cursor). record first { cursor = record first.cursor { rest = x.rest; lines = x.lines } }) (sym next);
-    }
+  by : (left : ℕ) → length c.rest < left → head_from head (head_within left from c.lines c.rest).words
+      ≡ head_of (head_in first.cursor).words → (head_within left from c.lines c.rest).lines ≡ (head_in first.cursor).lines
+      → (head_within left from c.lines c.rest).rest ≡ (head_in first.cursor).rest → Leads first now at (take_head_word head word)
+  by zero enough says lines rest = absurd (omega (arith, enough))
+  by (suc n) enough says lines rest = record {
+    words = suc l.words;
+    there_are = behind_last l.words (head_front first.cursor) ∙ ap behind_word l.there_are
+        ∙ ap (λ (p : HeadPlace). head_at p (behind_head c (read_head from c))) (sym r.goes_to)
+        ∙ ap (λ (x : Cursor). head_at at x) (sym next);
+    left = n;
+    enough = omega (arith, enough, less);
+    says = ap (λ (h : WholeHead). head_from head h.words) (sym (whole n)) ∙ says;
+    lines = ap (λ (h : WholeHead). h.lines) (sym (whole n)) ∙ lines;
+    rest = ap (λ (h : WholeHead). h.rest) (sym (whole n)) ∙ rest;
+    nest = r.goes_on
+        ∙ ap (λ (x : Nesting). record x { cursor = record x.cursor { rest = (read_head from c).rest; lines = (read_head from c).lines } })
+        l.nest ∙ ap (λ (x : Cursor). record first { cursor = record first.cursor { rest = x.rest; lines = x.lines } }) (sym next);
+  }
 
 -- At the end of a head all its words were taken, and the rest behind it is left.
 pub record LedOut (first now : Nesting) (head : HeadWords) : Type 0 where
@@ -135,31 +127,29 @@ pub record LedOut (first now : Nesting) (head : HeadWords) : Type 0 where
 
 pub leads_out : (first was now : Nesting) (from at : HeadPlace) (head : HeadWords) (word : List ℕ) → Leads first was from head
     → ReadsHead false at word from was now → LedOut first now head
-leads_out first was now from at head word l r = by l.left l.enough l.says l.lines l.rest
-  where
-    c : Cursor
-    c = was.cursor
+leads_out first was now from at head word l r = by l.left l.enough l.says l.lines l.rest where
+  c : Cursor
+  c = was.cursor
 
-    none : (read_head from c).is_word ≡ false
-    none = sym r.tells
+  none : (read_head from c).is_word ≡ false
+  none = sym r.tells
 
-    by : (left : ℕ) → length c.rest < left → head_from head (head_within left from c.lines c.rest).words
-        ≡ head_of (head_in first.cursor).words → (head_within left from c.lines c.rest).lines ≡ (head_in first.cursor).lines
-        → (head_within left from c.lines c.rest).rest ≡ (head_in first.cursor).rest → LedOut first now head
-    by zero enough says lines rest = absurd (omega (arith, enough))
-    by (suc n) enough says lines rest =
-        let whole = word_none n from c none in
-        record {
-          says = ap (λ (h : WholeHead). head_from head h.words) (sym whole) ∙ says;
-          nest = r.goes_on
-              ∙ ap (λ (x : Nesting). record x {
-                cursor = record x.cursor { rest = (read_head from c).rest; lines = (read_head from c).lines };
-              }) l.nest
-              ∙ ap (λ (bytes : List ℕ). record first { cursor = record first.cursor { rest = bytes; lines = (read_head from c).lines } })
-              (ap (λ (h : WholeHead). h.rest) (sym whole) ∙ rest)
-              ∙ ap (λ x. record first { cursor = record first.cursor { rest = (head_in first.cursor).rest; lines = x } })
-              (ap (λ (h : WholeHead). h.lines) (sym whole) ∙ lines);
-        }
+  by : (left : ℕ) → length c.rest < left → head_from head (head_within left from c.lines c.rest).words
+      ≡ head_of (head_in first.cursor).words → (head_within left from c.lines c.rest).lines ≡ (head_in first.cursor).lines
+      → (head_within left from c.lines c.rest).rest ≡ (head_in first.cursor).rest → LedOut first now head
+  by zero enough says lines rest = absurd (omega (arith, enough))
+  by (suc n) enough says lines rest =
+      let whole = word_none n from c none in
+      record {
+        says = ap (λ (h : WholeHead). head_from head h.words) (sym whole) ∙ says;
+        nest = r.goes_on ∙ ap (λ (x : Nesting). record x {
+          cursor = record x.cursor { rest = (read_head from c).rest; lines = (read_head from c).lines };
+        }) l.nest
+            ∙ ap (λ (bytes : List ℕ). record first { cursor = record first.cursor { rest = bytes; lines = (read_head from c).lines } })
+            (ap (λ (h : WholeHead). h.rest) (sym whole) ∙ rest)
+            ∙ ap (λ x. record first { cursor = record first.cursor { rest = (head_in first.cursor).rest; lines = x } })
+            (ap (λ (h : WholeHead). h.lines) (sym whole) ∙ lines);
+      }
 
 -- a head in which reading was given up stops behind some words
 pub stops_behind : (first was : Nesting) (from : HeadPlace) (head : HeadWords) (past : ℕ) (unread : List ℕ) → Leads first was from head
@@ -206,8 +196,7 @@ went_chosen f a b x y z set limit is given nested all went = record {
   depth = went.depth ∙ ap (λ (o : Open). f.depth a + length o.outer) (sym is);
   counted = λ base was. subst (λ (gs : List ℕ). AreCounted base gs (f.counts b).each (f.counts b).too_long) (sym given)
       (went.counted base was);
-  opened = subst (λ (o : Open). OpensOn x.nest.names o.nest.names (f.opened a) (f.opened b)) (sym is)
-      went.opened;
+  opened = subst (λ (o : Open). OpensOn x.nest.names o.nest.names (f.opened a) (f.opened b)) (sym is) went.opened;
   nested = λ honest start here. nested start (f.openings b) (went.nested honest start here);
   stays_given = λ honest start here g. all (f.sources a) (length start.all) (f.openings b) (went.stays_given honest start here g);
 }
@@ -250,8 +239,7 @@ heard_in_head failed s name was old now new f before after told front alone name
     let counted : IsCounted s (innermost now) f.lexer.window =
     subst (λ (i : ℕ). IsCounted s (get_or now.all i (opened [])) f.lexer.window) (sym place) tracked.0.counted in
     let one : length (opened_since old now) ≡ 1 = ap (λ (names : List (List ℕ)). length names) (h.openings ∙ alone) in
-    let first : innermost_place now ≡ n =
-    omega (
+    let first : innermost_place now ≡ n = omega (
       arith,
       place,
       one,

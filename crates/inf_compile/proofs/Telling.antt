@@ -5,8 +5,7 @@ use Rattle.inf_ending.specs.Faults.{Caused, IfRead, TellsEachRead, UnlessRead}
 use Rattle.inf_session.proofs.Promises.{caused_more, read_more, unless_read, unless_read_more}
 
 pub if_caused_more : {T : Type 0} (r : Result T Fault) (P Q : List ℕ → Type 0) (A B : Type 0) → ((name : List ℕ) → P name → Q name) →
-    (A → B)
-    → IfErr r (λ f. Caused f P A) → IfErr r (λ f. Caused f Q B)
+    (A → B) → IfErr r (λ f. Caused f P A) → IfErr r (λ f. Caused f Q B)
 if_caused_more (Ok x) P Q A B h k p = tt
 if_caused_more (Err f) P Q A B h k p = caused_more f h k p
 
@@ -29,5 +28,4 @@ tells_then r first before now same tells = let P : ℕ → Type 0 = λ n. TellsE
 pub tells_behind : {T : Type 0} (r : Result T Fault) (first before now : ℕ) → IsErr r → before ≡ first
     → IfErr r (λ f. UnlessRead f (now ≡ before)) → TellsEachRead r first now
 tells_behind (Ok x) first before now is same tells = cc
-tells_behind (Err f) first before now is same tells =
-    (tt, unless_read_more f (λ later. later ∙ same) tells)
+tells_behind (Err f) first before now is same tells = (tt, unless_read_more f (λ later. later ∙ same) tells)

@@ -10,8 +10,7 @@ use Rattle.inf_command.specs.{Directories.directories_of, Heads.head_of, Heads.w
 
 -- the choices of words for the reading
 abbrev pub by_words : Choice → Choices
-by_words c =
-    record { letters = c.letters; settings = settings_of c.settings; directories = directories_of c.path }
+by_words c = record { letters = c.letters; settings = settings_of c.settings; directories = directories_of c.path }
 
 -- the choices of words over those of a head: on each matter of which the words say nothing, the head has the say
 abbrev pub chosen_over : WholeHead → Choice → Choices

@@ -150,8 +150,7 @@ pub record StopsReading (failed : Type 0) (sources : Sources) (s : State) (old n
 -- All messages were written that come with some number of turns from the start, which do not end reading. Behind them the next token
 -- could not be read; or that token asks for a file, which could not be opened, or is one more than can be numbered, and was closed again.
 pub record HeardTurns (limits : Limits) (failed : Type 0) (sources : Sources) (o : Choices) (s : State) (old new : Openings)
-    (before after : Option (List ℕ))
-    (told : List ℕ) : Type 0 where
+    (before after : Option (List ℕ)) (told : List ℕ) : Type 0 where
   pub turns : ℕ
   pub takes : Takes before after (run limits sources o turns s).told
   pub goes_on : has_ended (run limits sources o turns s) ≡ false
@@ -184,8 +183,7 @@ pub record HeardInHead (failed : Type 0) (sources : Sources) (name : List ℕ) (
 
 -- The messages that were written where a file, of the name that is reported, was not read, and the cause.
 abbrev pub Heard : Type 0 → Sources → Choices → List ℕ → Openings → Openings → Option (List ℕ) → Option (List ℕ) → List ℕ → Type 0
-Heard failed sources o name old new before after told =
-    HeardNothing failed name old new before after told
+Heard failed sources o name old new before after told = HeardNothing failed name old new before after told
     ⊎ (HeardInHead failed sources name old new before after told
     ⊎ HeardTurns (limits_of o.settings) failed sources o (start sources o name) old new before after told)
 
@@ -212,7 +210,5 @@ GivenUpFrom limits failed sources o was begun old new start now files name =
 -- A file could not be opened or read, with any reader, between two moments: the device failed, or the reader gave more bytes of one opening
 -- than a source may have, and the count of these rose or is at its last value; or more names were opened so far than can be numbered.
 abbrev pub IsUnread : {S : Type 0} → Files S → S → S → Type 0
-IsUnread f old new =
-    Rose (f.faults old) (f.faults new)
-    ⊎ ((min ((f.counts old).too_long + 1) last_count ≤ (f.counts new).too_long)
+IsUnread f old new = Rose (f.faults old) (f.faults new) ⊎ ((min ((f.counts old).too_long + 1) last_count ≤ (f.counts new).too_long)
     ⊎ (65536 ≤ length (f.opened new)))

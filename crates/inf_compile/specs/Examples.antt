@@ -42,8 +42,7 @@ TextIsMissing =
 
 -- Each undeclared name is reported once, in order of first use, as it is spelled there.
 abbrev pub NamesAreUndeclared : Type 0
-NamesAreUndeclared =
-    Refuses (only (codes "[ Main; a(); b(C); A(); ];\n"))
+NamesAreUndeclared = Refuses (only (codes "[ Main; a(); b(C); A(); ];\n"))
     (codes "t.inf(1): Error: \"a\" was never declared\nt.inf(1): Error: \"b\" was never declared\n"
     ++ codes "t.inf(1): Error: \"C\" was never declared\nErrors: 3, warnings: 0 (no output)\n")
 
@@ -55,8 +54,7 @@ FilesAreIncluded =
 
 -- A name of an included file is known, one that is declared later is not, and a conditional ends with its file.
 abbrev pub ConditionalsChoose : Type 0
-ConditionalsChoose =
-    Refuses (with_source (codes "c.h") (codes "Constant K;")
+ConditionalsChoose = Refuses (with_source (codes "c.h") (codes "Constant K;")
     (only (codes "Include \"c.h\";\nIfdef K; Message \"yes\"; Ifnot; Message \"no\"; Endif;\n"
     ++ codes "[ Main; #Ifdef L; new_line; #Endif; ];\nConstant L;\nIfdef M;")))
     (codes "yes\nt.inf(5): Error: Conditional without its other end\nErrors: 1, warnings: 0 (no output)\n")
@@ -64,8 +62,7 @@ ConditionalsChoose =
 -- A condition is a known number of names that were declared by the directives before it; with an error it is false. No local hides a
 -- name in it, and a token that does not fit it is the bad one of the directive around it.
 abbrev pub ConditionsChoose : Type 0
-ConditionsChoose =
-    Refuses (only (codes "Constant K = 3;\nIftrue K * 2 == 6; Message \"a\"; Ifnot; Message \"no\"; Endif;\n"
+ConditionsChoose = Refuses (only (codes "Constant K = 3;\nIftrue K * 2 == 6; Message \"a\"; Ifnot; Message \"no\"; Endif;\n"
     ++ codes "Iffalse 1 / 0; Message \"b\"; Endif;\n[ Main K; #Iftrue K == 3; K; #Endif;\n"
     ++ codes "#Iffalse L; #Endif;\n#Iftrue 1); ];\nConstant L;"))
     (codes "a\nt.inf(3): Error: Constant out of range\nb\nt.inf(5): Error: Not a constant known here\n"
@@ -78,8 +75,7 @@ times (suc n) bytes = bytes ++ times n bytes
 
 -- A file includes itself, and sixteen of it are open at most.
 abbrev pub SixteenAreOpen : Type 0
-SixteenAreOpen =
-    Refuses (only (codes "Message \"x\";\nInclude \"t.inf\";"))
+SixteenAreOpen = Refuses (only (codes "Message \"x\";\nInclude \"t.inf\";"))
     (times 16 (codes "x\n") ++ codes "t.inf(2): Fatal error: More than 16 files open\n")
 
 -- A story has 976 bytes, and its header says that it has 244 fours.

@@ -9,8 +9,7 @@ use Rattle.inf_ending.specs.Ending.{Outcome, finished, missing}
 -- The messages that were written before come first.
 abbrev pub ending_of : Limits → Choices → List ℕ → State → Outcome
 ending_of limits o serial s =
-    let v = supplied limits o s in
-    let e = finished limits serial v.nesting.names v.work in
+    let v = supplied limits o s in let e = finished limits serial v.nesting.names v.work in
     record e { messages = v.told ++ e.messages }
 
 -- The outcome of a main source that is there: reading ends, and the outcome is its ending.

@@ -47,8 +47,7 @@ fn compile_named<F: Files, M: Sink, S: Sink>(
     ensures headline { IsTrue (F.is_honest files.old) → IfOk result (λ status.
         Compiles (F.sources files.old) (chosen_by (F.sources files.old) options.now) date (source_name options.now.source) status
         (M.taken messages.old) (M.taken messages.new) (S.taken story.old) (S.taken story.new)) }
-    ensures once { let name = source_name options.now.source in
-        IsTrue (F.is_honest files.old) → OnOk result
+    ensures once { let name = source_name options.now.source in IsTrue (F.is_honest files.old) → OnOk result
         (OpenedBy (F.sources files.old name) (F.sources files.old) (chosen_by (F.sources files.old) options.now) name (F.openings files.old)
         (F.openings files.new)) }
     ensures opened { IsTrue (F.is_honest files.old) → OnErr result
@@ -111,16 +110,14 @@ fn refuse<M: Sink>(alloc: Global, messages: &mut M) -> Result<Status, Fault>
 /// Compiles the source that the options name, with the files that it includes: writes each message as soon as it is
 /// found, and the story where no error was found.
 ///
-/// The words of the command decide; each matter that they leave open is decided by the head of the source: its lines,
-/// from the first byte on, that begin with `!%`. Their words are read as those of the command, and one is passed over
-/// that the command would refuse, that begins with none of `-`, `$` and `+`, or that has more than 255 bytes or one
-/// that is not of ASCII. An included file has no head.
+/// The words of the command decide; each matter that they leave open is decided by the head of the source: its lines, from the first byte
+/// on, that begin with `!%`. Their words are read as those of the command, and one is passed over that the command would refuse, that
+/// begins with none of `-`, `$` and `+`, or that has more than 255 bytes or one that is not of ASCII. An included file has no head.
 ///
-/// `date` is the story's serial number, six ASCII digits. `hashing` changes nothing but how long a source takes whose
-/// names were made to fall together. The source's name is the word for it, with `.inf` where its last part has no
-/// extension; a name that is not there is a fatal message, and so is an empty word, for which nothing is opened.
-/// Included files are looked for in the directories of the options. `Status` tells whether an error is among the
-/// messages.
+/// `date` is the story's serial number, six ASCII digits. `hashing` changes nothing but how long a source takes whose names were made to
+/// fall together. The source's name is the word for it, with `.inf` where its last part has no extension; a name that is not there is a
+/// fatal message, and so is an empty word, for which nothing is opened. Included files are looked for in the directories of the options.
+/// `Status` tells whether an error is among the messages.
 ///
 /// Of the faults, `Memory` is want of memory; `Read` comes where a file could not be opened or read, is longer
 /// than 16,777,216 bytes, or is one of more than 65,535 names, and names it: as it was opened, or where it was not, as
@@ -141,8 +138,7 @@ pub fn compile<F: Files, M: Sink, S: Sink>(
         (source_name options.now.source) status (M.taken messages.old) (M.taken messages.new) (S.taken story.old) (S.taken story.new)) }
 
     // The openings are then those of the reading, in its order, each once, and all were closed again.
-    ensures once { let name = source_name options.now.source in
-        IsTrue (F.is_honest files.old) → OnOk result
+    ensures once { let name = source_name options.now.source in IsTrue (F.is_honest files.old) → OnOk result
         (OpenedBy (named_by options.now.source (F.sources files.old) name) (named_by options.now.source (F.sources files.old))
         (chosen_by (F.sources files.old) options.now) name (F.openings files.old) (F.openings files.new)) }
 

@@ -20,8 +20,7 @@ pub fn read_head<F: Files>(open_files: &mut OpenFiles, files: &mut F) -> Result<
     requires is_open { length open_files.old.outer < F.depth files.old }
     requires goes { open_files.old.lexer.has_failed ≡ false }
 
-    // With an honest reader the result has all words of the head, and the rest of the file behind the head is still to
-    // come.
+    // With an honest reader the result has all words of the head, and the rest of the file behind the head is still to come.
     ensures head { Honestly F.Files files.old open_files.old (λ start. IfOk result (λ head. head
         ≡ head_of (head_in (nesting (F.sources files.old) start (F.openings files.old) open_files.old).cursor).words)) }
     ensures nesting { Honestly F.Files files.old open_files.old (λ start. OnOk result (

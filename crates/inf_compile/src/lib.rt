@@ -1,6 +1,5 @@
-//! The compiler: `compile` reads a source and the files that it includes by a reader of files, and writes its
-//! messages and its story to two devices.
-//! The outcome of a main source with the files that it includes, and `translate`, which gives it.
+//! The compiler: `compile` reads a source and the files that it includes by a reader of files, and writes its messages and its story to two
+//! devices. The outcome of a main source with the files that it includes, and `translate`, which gives it.
 #![tactic(auto)]
 
 pub mod compile;

@@ -30,9 +30,8 @@ use inf_sources::open_files::OpenFiles;
 use std::alloc::Global;
 use std::marker::Brand;
 
-/// Compiles the main source of this name with the files that it includes, and writes all messages, each as soon as it
-/// is found. The words of `options` choose, and where they say nothing, the head of the main source does. The serial
-/// number has six digits.
+/// Compiles the main source of this name with the files that it includes, and writes all messages, each as soon as it is found. The words
+/// of `options` choose, and where they say nothing, the head of the main source does. The serial number has six digits.
 ///
 /// Returns an error: `Memory` is want of memory; `Read` comes where a file could not be opened or read, has more
 /// than 16,777,216 bytes, or is one of more than 65,535 names; `Messages` where a write failed or took nothing.
@@ -126,8 +125,7 @@ fn translate_opened<F: Files, M: Sink>(
         (chosen_at was options.now) was (begun_at was options.now) (M.taken messages.old) (M.taken messages.new)
         start (F.openings files.new) result.0 name))) }
     ensures opened { Honestly F.Files files.old open_files (λ start. OnErr result.1 (
-        let was = nesting (F.sources files.old) start (F.openings files.old) open_files in
-        (turns : ℕ) × OpensAll
+        let was = nesting (F.sources files.old) start (F.openings files.old) open_files in (turns : ℕ) × OpensAll
         (run (limits_of (chosen_at was options.now).settings) (F.sources files.old) (chosen_at was options.now) turns)
         (begun_at was options.now) (opened_since start (F.openings files.new)))) }
     ensures fits { IfOk result.1 (λ compiled. StaysFit F.Files files.old files.new open_files) }
@@ -213,8 +211,7 @@ fn translate_under<F: Files, M: Sink, B: Bounds>(
     }
 }
 
-/// Reads all that is still to be read, and ends the compilation. Returns the files that are still open then, with the
-/// result.
+/// Reads all that is still to be read, and ends the compilation. Returns the files that are still open then, with the result.
 fn read_out<F: Files, M: Sink, B: Bounds>(
     mut session: Session<'_, B>,
     files: &mut F,
@@ -248,8 +245,7 @@ fn read_out<F: Files, M: Sink, B: Bounds>(
     ensures errors { IfOk result.1 (λ compiled. compiled.status ≡ Status.Errors → compiled.story ≡ None) }
     ensures clean { IfOk result.1 (λ compiled. SucceedsClean serial.now compiled (M.taken messages.old) (M.taken messages.new)) }
     ensures fault { IfErr result.1 (λ fault. Caused fault (λ name. IsUnreadable F.Files files.old files.new session.entry.open_files
-        result.0)
-        (Rose (M.failures messages.old) (M.failures messages.new))) }
+        result.0) (Rose (M.failures messages.old) (M.failures messages.new))) }
     ensures quiet { HidesNoFailure result.1 (M.failures messages.old) (M.failures messages.new) }
     ensures is_open { length result.0.outer < F.depth files.new }
 {
@@ -272,8 +268,7 @@ fn supply_all<M: Sink, B: Bounds>(
     session.supply(messages)
 }
 
-/// Reads the used part of the veneer, and ends the compilation. Returns the files that are still open then, with the
-/// result.
+/// Reads the used part of the veneer, and ends the compilation. Returns the files that are still open then, with the result.
 fn supply_out<M: Sink, B: Bounds>(
     mut session: Session<'_, B>,
     serial: &[u8; 6],

@@ -80,13 +80,9 @@ alone n = record { tree = leaf n; origin = of_leaf 0 0 (Operand.Known n) }
 two_some : (op : Binary) (a b n : ℕ) → two_number op a b ≡ Some n →
     (joined op (leaf a) (leaf b) ≡ leaf n) × (two_finding op 0 (seen (alone a)) (seen (alone b)) None ≡ None)
 two_some op a b n e =
-    let j = joined op (leaf a) (leaf b) in
-    let f = two_finding op 0 (seen (alone a)) (seen (alone b)) None in
+    let j = joined op (leaf a) (leaf b) in let f = two_finding op 0 (seen (alone a)) (seen (alone b)) None in
     let parts = unless_some (value_finding_of (kind_of j) 0 f) (number_of (j ∷ [])) n e in
-    let is = number_is j n parts.1 in (
-      is,
-      sym (ap (λ t. value_finding_of (kind_of t) 0 f) is) ∙ parts.0,
-    )
+    let is = number_is j n parts.1 in (is, sym (ap (λ t. value_finding_of (kind_of t) 0 f) is) ∙ parts.0)
 
 two_moved : (op : Binary) (a b : ℕ) (r q : Rooted) → two_finding op 0 (seen (alone a)) (seen (alone b)) None ≡ None →
     two_finding op 0 (seen (record { tree = leaf a; origin = r.origin })) (seen (record { tree = leaf b; origin = q.origin })) None ≡ None
@@ -100,16 +96,13 @@ two_moved op a b r q e = e
 -- what is found does not depend on the places of the parts
 two_free : (op : Binary) (a b : ℕ) (r q : Rooted) → r.tree ≡ leaf a → q.tree ≡ leaf b →
     two_finding op 0 (seen (alone a)) (seen (alone b)) None ≡ None → two_finding op 0 (seen r) (seen q) None ≡ None
-two_free op a b r q is it e =
-    ap (λ t. two_finding op 0 (seen (record { tree = t; origin = r.origin })) (seen q) None) is
+two_free op a b r q is it e = ap (λ t. two_finding op 0 (seen (record { tree = t; origin = r.origin })) (seen q) None) is
     ∙ ap (λ t. two_finding op 0 (seen (record { tree = leaf a; origin = r.origin }))
-    (seen (record { tree = t; origin = q.origin })) None) it
-    ∙ two_moved op a b r q e
+    (seen (record { tree = t; origin = q.origin })) None) it ∙ two_moved op a b r q e
 
 some_moved : (op : Binary) (a b : ℕ) (r q : Rooted) → is_some (two_finding op 0 (seen (alone a)) (seen (alone b)) None) ≡ true →
     is_some (two_finding op 0 (seen (record { tree = leaf a; origin = r.origin }))
-    (seen (record { tree = leaf b; origin = q.origin })) None)
-    ≡ true
+    (seen (record { tree = leaf b; origin = q.origin })) None) ≡ true
 some_moved Binary.Assign a b r q e = refl
 some_moved (Binary.Operation Operation.Divide) a b r q e = e
 some_moved (Binary.Operation Operation.Remainder) a b r q e = e
@@ -119,19 +112,16 @@ some_moved op a b r q e = e
 
 some_free : (op : Binary) (a b : ℕ) (r q : Rooted) → r.tree ≡ leaf a → q.tree ≡ leaf b →
     is_some (two_finding op 0 (seen (alone a)) (seen (alone b)) None) ≡ true → is_some (two_finding op 0 (seen r) (seen q) None) ≡ true
-some_free op a b r q is it e =
-    ap (λ t. is_some (two_finding op 0 (seen (record { tree = t; origin = r.origin })) (seen q) None)) is
+some_free op a b r q is it e = ap (λ t. is_some (two_finding op 0 (seen (record { tree = t; origin = r.origin })) (seen q) None)) is
     ∙ ap (λ t. is_some (two_finding op 0 (seen (record { tree = leaf a; origin = r.origin }))
-    (seen (record { tree = t; origin = q.origin })) None)) it
-    ∙ some_moved op a b r q e
+    (seen (record { tree = t; origin = q.origin })) None)) it ∙ some_moved op a b r q e
 
 two_none : (op : Binary) (a b : ℕ) → is_then op ≡ false → two_number op a b ≡ None →
     (is_some (two_finding op 0 (seen (alone a)) (seen (alone b)) None) ≡ true) ⊎ (is_stuck (joined op (leaf a) (leaf b)) ≡ true)
 two_none op a b single e = elim (option_cases (folded op (leaf a) (leaf b))) [
   | inl unknown ↦ inr (unfolded_stuck op (leaf a) (leaf b) single unknown)
   | inr some ↦
-      let j = joined op (leaf a) (leaf b) in
-      let f = two_finding op 0 (seen (alone a)) (seen (alone b)) None in
+      let j = joined op (leaf a) (leaf b) in let f = two_finding op 0 (seen (alone a)) (seen (alone b)) None in
       let is : j ≡ leaf some.0 = ap (λ m. number_or m (built op (function_of (leaf a)) (leaf a) (leaf b))) some.1 in
       let found = unless_none (value_finding_of (kind_of j) 0 f) some.0
       (ap (λ t. number_unless (value_finding_of (kind_of j) 0 f) (number_of (t ∷ []))) (sym is) ∙ e) in
@@ -163,8 +153,7 @@ pub doomed_by : (t : Tree) → is_stuck t ≡ true → is_doomed t ≡ true
 doomed_by t stuck = or_right (is_function t) (is_stuck t) stuck
 
 pub dead_two : (op : Binary) (va vb : Option ℕ) (vs : List (Option ℕ)) (trees : List Rooted) (f : Option Finding) → is_then op ≡ false →
-    AreValues (vb ∷ va ∷ vs) trees → f ≡ None → two_value op va vb ≡ None →
-    Wrong (with_two_of 0 op (record { trees = trees; finding = f }))
+    AreValues (vb ∷ va ∷ vs) trees → f ≡ None → two_value op va vb ≡ None → Wrong (with_two_of 0 op (record { trees = trees; finding = f }))
 dead_two op va vb vs [] f single are none e = absurd are
 dead_two op va vb vs (q ∷ []) f single are none e = absurd are.1
 dead_two op (Some a) (Some b) vs (q ∷ r ∷ trees) f single are none e = elim (two_none op a b single e) [
@@ -172,11 +161,9 @@ dead_two op (Some a) (Some b) vs (q ∷ r ∷ trees) f single are none e = elim 
   | inr stuck ↦ inr (inl (doomed_by (joined op r.tree q.tree)
       (ap (λ t. is_stuck (joined op t q.tree)) are.1.0 ∙ ap (λ t. is_stuck (joined op (leaf a) t)) are.0 ∙ stuck)))
 ]
-dead_two op None vb vs (q ∷ r ∷ trees) f single are none e =
-    inr (inl (doomed_by (joined op r.tree q.tree)
+dead_two op None vb vs (q ∷ r ∷ trees) f single are none e = inr (inl (doomed_by (joined op r.tree q.tree)
     (unfolded_stuck op r.tree q.tree single (unknown_left op r.tree q.tree (value_known None r.tree are.1.0)))))
-dead_two op (Some a) None vs (q ∷ r ∷ trees) f single are none e =
-    inr (inl (doomed_by (joined op r.tree q.tree)
+dead_two op (Some a) None vs (q ∷ r ∷ trees) f single are none e = inr (inl (doomed_by (joined op r.tree q.tree)
     (unfolded_stuck op r.tree q.tree single (ap (λ t. folded op r.tree t) are.0.1 ∙ later_right op r.tree are.0.0))))
 
 -- Operators of one value
@@ -184,13 +171,9 @@ dead_two op (Some a) None vs (q ∷ r ∷ trees) f single are none e =
 single_some : (op : Unary) (a n : ℕ) → single_number op a ≡ Some n →
     (joined_single op (leaf a) ≡ leaf n) × (unary_finding op (seen (alone a)) None ≡ None)
 single_some op a n e =
-    let j = joined_single op (leaf a) in
-    let f = unary_finding op (seen (alone a)) None in
+    let j = joined_single op (leaf a) in let f = unary_finding op (seen (alone a)) None in
     let parts = unless_some (value_finding_of (kind_of j) 0 f) (number_of (j ∷ [])) n e in
-    let is = number_is j n parts.1 in (
-      is,
-      sym (ap (λ t. value_finding_of (kind_of t) 0 f) is) ∙ parts.0,
-    )
+    let is = number_is j n parts.1 in (is, sym (ap (λ t. value_finding_of (kind_of t) 0 f) is) ∙ parts.0)
 
 unary_moved : (op : Unary) (a : ℕ) (r : Rooted) → unary_finding op (seen (alone a)) None ≡ None →
     unary_finding op (seen (record { tree = leaf a; origin = r.origin })) None ≡ None
@@ -209,8 +192,7 @@ single_none : (op : Unary) (a : ℕ) → single_number op a ≡ None →
 single_none op a e = elim (option_cases (folded_single op (Some a))) [
   | inl unknown ↦ inr (ap (λ m. is_stuck (number_or m (One op (leaf a)))) unknown)
   | inr some ↦
-      let j = joined_single op (leaf a) in
-      let f = unary_finding op (seen (alone a)) None in
+      let j = joined_single op (leaf a) in let f = unary_finding op (seen (alone a)) None in
       let is : j ≡ leaf some.0 = ap (λ m. number_or m (One op (leaf a))) some.1 in
       let found = unless_none (value_finding_of (kind_of j) 0 f) some.0
       (ap (λ t. number_unless (value_finding_of (kind_of j) 0 f) (number_of (t ∷ []))) (sym is) ∙ e) in
@@ -237,8 +219,7 @@ dead_single op front (Some a) vs (r ∷ trees) f are none e = elim (single_none 
       ∙ ap (λ t. is_some (unary_finding op (seen (record { tree = t; origin = r.origin })) None)) are.0 ∙ unary_some_moved op a r found)
   | inr stuck ↦ inr (inl (doomed_by (joined_single op r.tree) (ap (λ t. is_stuck (joined_single op t)) are.0 ∙ stuck)))
 ]
-dead_single op front None vs (r ∷ trees) f are none e =
-    inr (inl (doomed_by (joined_single op r.tree)
+dead_single op front None vs (r ∷ trees) f are none e = inr (inl (doomed_by (joined_single op r.tree)
     (ap (λ n. is_stuck (number_or (folded_single op n) (One op r.tree))) (value_known None r.tree are.0))))
 
 -- Tests against lists
@@ -272,10 +253,8 @@ chain_one None t is = record {
 
 chain_more : (v : Option ℕ) (t c : Tree) (bs : List (Option ℕ)) → IsValue v t → Chain c bs → Chain (joined Binary.Then t c) (v ∷ bs)
 chain_more v t c bs is chain = record {
-  holds_of = λ found test a.
-      ap (λ k. any_holds (or_known found (holds_known test a k)) test a c) (value_known v t is)
-      ∙ ap (λ h. any_holds (or_known found h) test a c) (test_is test a v)
-      ∙ chain.holds_of (or_known found (holds_by test a v)) test a;
+  holds_of = λ found test a. ap (λ k. any_holds (or_known found (holds_known test a k)) test a c) (value_known v t is)
+      ∙ ap (λ h. any_holds (or_known found h) test a c) (test_is test a v) ∙ chain.holds_of (or_known found (holds_by test a v)) test a;
   quiet = λ token f. refl;
 }
 
@@ -288,9 +267,7 @@ onto (suc n) (v ∷ vs) bs = onto n vs (v ∷ bs)
 pub onto_is : (n : ℕ) (vs bs : List (Option ℕ)) → onto n vs bs ≡ reverse (take n vs) ++ bs
 onto_is zero vs bs = refl
 onto_is (suc n) [] bs = refl
-onto_is (suc n) (v ∷ vs) bs =
-    onto_is n vs (v ∷ bs)
-    ∙ sym (append_assoc (reverse (take n vs)) (v ∷ []) bs)
+onto_is (suc n) (v ∷ vs) bs = onto_is n vs (v ∷ bs) ∙ sym (append_assoc (reverse (take n vs)) (v ∷ []) bs)
     ∙ ap (λ (l : List (Option ℕ)). l ++ bs) (sym (reverse-append (v ∷ []) (take n vs)))
 
 -- joints may be made from the latest trees on
@@ -316,8 +293,7 @@ lists (suc n) c bs (v ∷ vs) (r ∷ trees) chain are few =
     chain.quiet c.origin.token (value_finding_of (kind_of r.tree) r.origin.token None) ∙ value_quiet v r.tree r.origin.token None are.0 in
     record {
       list = before.list;
-      is =
-          listed_first 0 n (record { trees = c ∷ r ∷ trees; finding = None })
+      is = listed_first 0 n (record { trees = c ∷ r ∷ trees; finding = None })
           ∙ ap (λ f. listed 0 n (record { trees = new ∷ trees; finding = f })) quiet ∙ before.is;
       chain = before.chain;
     }
@@ -330,8 +306,7 @@ test_folded : (sense : Bool) (t : Test) (a b : Tree) → folded (test_op sense t
 test_folded true t a b = refl
 test_folded false t a b = refl
 
-pub test_found : (sense : Bool) (t : Test) (a b : Rooted) →
-    two_finding (test_op sense t) 0 (seen a) (seen b) None
+pub test_found : (sense : Bool) (t : Test) (a b : Rooted) → two_finding (test_op sense t) 0 (seen a) (seen b) None
     ≡ value_finding_of (kind_of b.tree) b.origin.token (value_finding_of (kind_of a.tree) a.origin.token None)
 test_found true t a b = refl
 test_found false t a b = refl

@@ -98,8 +98,7 @@ two_from (Binary.Operation Operation.Divide) unit a b f is =
 two_from (Binary.Operation Operation.Remainder) unit a b f is =
     least_if (is_known (kind_of a.tree) && is_zero (kind_of b.tree)) (values_finding (seen a) (seen b) f) (out_of_range unit) is
 two_from (Binary.Operation o) unit a b f is = is
-two_from Binary.To unit a b f is =
-    constant_stays unit b.tree (constant_finding unit (kind_of a.tree) (values_finding (seen a) (seen b) f))
+two_from Binary.To unit a b f is = constant_stays unit b.tree (constant_finding unit (kind_of a.tree) (values_finding (seen a) (seen b) f))
     (constant_stays unit a.tree (values_finding (seen a) (seen b) f) is)
 two_from op unit a b f is = is
 
@@ -308,8 +307,7 @@ two_wrong : (op : Binary) (unit : ℕ) (a b : Rooted) (f : Option Finding) → (
     (is_some (two_finding op unit (seen a) (seen b) f) ≡ true) ⊎ (is_doomed (joined op a.tree b.tree) ≡ true)
 two_wrong op unit a b f doomed = elim (or_parts (is_doomed a.tree) (is_doomed b.tree) doomed) [
   | inl one ↦ elim (or_parts (is_function a.tree) (is_stuck a.tree) one) [
-    | inl is ↦ inl (two_from op unit a b f
-        (value_stays b.tree b.origin.token (value_finding (seen a) f) (function_wrong a f is)))
+    | inl is ↦ inl (two_from op unit a b f (value_stays b.tree b.origin.token (value_finding (seen a) f) (function_wrong a f is)))
     | inr stuck ↦ inr (or_right (is_function (joined op a.tree b.tree)) (is_stuck (joined op a.tree b.tree))
         (joined_stuck op a.tree b.tree (or_left (is_stuck a.tree) (is_stuck b.tree) stuck)))
   ]

@@ -32,16 +32,13 @@ as_unfit j e = record { handed = Forwarded.Unfit; is = e; on = refl }
 
 -- the end of a file fits no condition
 to_offered_condition : (wanted : Bool) (q : Site) (out : Out) (bytes : List ℕ) (place : Place) (named : Bool) (k : Condition) (p : Pending)
-    (c : Conditions)
-    → IsForwarded (offered_condition wanted q out (end_of bytes place named) k p c).judged
+    (c : Conditions) → IsForwarded (offered_condition wanted q out (end_of bytes place named) k p c).judged
 to_offered_condition wanted q out bytes place named k p c =
-    let t : SourceToken = end_of bytes place named in
-    let n : Condition = condition_took t k in
+    let t : SourceToken = end_of bytes place named in let n : Condition = condition_took t k in
     as_unfit _ (ap (λ (b : Bool). (cond b (went_on wanted q out t n p c) (unfit c)).judged.token) (end_fits_nothing k.stack))
 
 to_asked : (conditions : List Condition) (wanted : Bool) (q : Site) (out : Out) (bytes : List ℕ) (place : Place) (named : Bool)
-    (p : Pending) (c : Conditions)
-    → IsForwarded (asked conditions wanted q out (end_of bytes place named) p c).judged
+    (p : Pending) (c : Conditions) → IsForwarded (asked conditions wanted q out (end_of bytes place named) p c).judged
 to_asked [] wanted q out bytes place named p c = as_unfit _ refl
 to_asked (k ∷ conditions) wanted q out bytes place named p c =
     to_offered_condition wanted q out bytes place named k p (record c { conditions = conditions })
@@ -60,8 +57,7 @@ to_offered [] false q out bytes place named c = as_kept _ refl
 to_offered (p ∷ ps) front q out bytes place named c = to_awaited p.awaits q out bytes place named p (record c { pending = ps })
 
 end_by : (side : Option LeftOut) (sign : Option Place) (site : Site) (out : Out) (bytes : List ℕ) (place : Place) (named : Bool)
-    (c : Conditions)
-    → IsForwarded (judged_by side sign site out (end_of bytes place named) c).judged
+    (c : Conditions) → IsForwarded (judged_by side sign site out (end_of bytes place named) c).judged
 end_by (Some side) sign site out bytes place named c =
     to_offered c.pending false site out bytes place named (record c { left_out = None; sign = None })
 end_by None (Some at) site out bytes place named c =

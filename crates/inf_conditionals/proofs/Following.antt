@@ -76,8 +76,7 @@ bool_cases false = inr refl
 -- Some symbols more, of which none is a leaf
 grown : (declared : ℕ) (o : Out) (tokens left : List SourceToken) (last : Option SourceToken) (u : Spoken) (t new : Truth)
     (symbols : List Symbol) (firsts counts brackets : List ℕ) → Follows declared o tokens left last u t →
-    AreIn (length u.gathering.leaves) symbols → counts ≡ new.counts → new.ahead ≡ t.ahead →
-    Stands new.is_false new.values
+    AreIn (length u.gathering.leaves) symbols → counts ≡ new.counts → new.ahead ≡ t.ahead → Stands new.is_false new.values
     (gathered Wanted.Constant 0 (operands_of declared o tokens u.gathering.leaves) symbols (now_of declared o tokens u.gathering)) →
     Follows declared o tokens left last (record u {
       gathering = record {
@@ -95,8 +94,7 @@ grown declared o tokens left last u t new symbols firsts counts brackets f are s
   counts = same;
   ahead = f.ahead ∙ sym ahead;
   inside = in_append (length u.gathering.leaves) u.gathering.symbols symbols f.inside are;
-  stands =
-      subst (λ (x : Gathered). Stands new.is_false new.values x)
+  stands = subst (λ (x : Gathered). Stands new.is_false new.values x)
       (sym (gathered_append u.gathering.symbols symbols (operands_of declared o tokens u.gathering.leaves) nothing_gathered)) stands;
 }
 
@@ -164,8 +162,7 @@ two_goes : (declared : ℕ) (o : Out) (tokens left : List SourceToken) (last : O
 two_goes declared o tokens left last u t op s firsts [] f is are means = inl refl
 two_goes declared o tokens left last u t op s firsts (b ∷ []) f is are means = inl refl
 two_goes declared o tokens left last u t op s firsts (b ∷ a ∷ values) f is are means =
-    let v = two_value op a b in
-    let new = with_value v values t in
+    let v = two_value op a b in let new = with_value v values t in
     elim (bool_cases (is_then op)) [
       | inl lists ↦ inl (ap (λ x. (if x then odd t else new).is_odd) lists)
       | inr single ↦ inr (subst (λ x. Follows declared o tokens left last (record u {
@@ -247,8 +244,7 @@ nonzero (suc n) e = omega arith
 
 tested_goes : (declared : ℕ) (o : Out) (tokens left : List SourceToken) (last : Option SourceToken) (u : Spoken) (t : Truth)
     (sense : Bool) (test : Test) (count : ℕ) (firsts : List ℕ) (values : List (Option ℕ)) → Follows declared o tokens left last u t →
-    (count == 0) ≡ false → drop count t.values ≡ values →
-    Goes declared o tokens left last (record u {
+    (count == 0) ≡ false → drop count t.values ≡ values → Goes declared o tokens left last (record u {
       gathering = record {
         leaves = u.gathering.leaves;
         symbols = u.gathering.symbols ++ Symbol.List (count - 1) ∷ Symbol.Two (test_op sense test) ∷ [];
@@ -259,8 +255,7 @@ tested_goes : (declared : ℕ) (o : Out) (tokens left : List SourceToken) (last 
     }) (without_list (tested_behind sense test values (reverse (take count t.values)) t))
 tested_goes declared o tokens left last u t sense test count firsts [] f some is = inl refl
 tested_goes declared o tokens left last u t sense test count firsts (a ∷ values) f some is =
-    let v = tested sense test a (reverse (take count t.values)) in
-    let n = nonzero count some in
+    let v = tested sense test a (reverse (take count t.values)) in let n = nonzero count some in
     inr (grown declared o tokens left last u t (without_list (with_value v values t))
     (Symbol.List (count - 1) ∷ Symbol.Two (test_op sense test) ∷ []) firsts (drop 1 u.gathering.counts) u.gathering.brackets f
     (tt, (tt, tt)) (ap (λ (l : List ℕ). drop 1 l) f.counts) refl
@@ -295,8 +290,7 @@ test_goes declared o tokens left last u t sense test count firsts f =
     ]
 
 test_by_op : (declared : ℕ) (o : Out) (tokens left : List SourceToken) (last : Option SourceToken) (u : Spoken) (t : Truth)
-    (op : Binary) (count : ℕ) (firsts : List ℕ) → Follows declared o tokens left last u t →
-    Goes declared o tokens left last (record u {
+    (op : Binary) (count : ℕ) (firsts : List ℕ) → Follows declared o tokens left last u t → Goes declared o tokens left last (record u {
       gathering = record {
         leaves = u.gathering.leaves;
         symbols = u.gathering.symbols ++ Symbol.List (count - 1) ∷ Symbol.Two op ∷ [];
@@ -329,10 +323,8 @@ leaf_grown : (declared : ℕ) (o : Out) (tokens left : List SourceToken) (last :
     Follows declared o tokens left last (record u { gathering = leaf_gathered first token l u.gathering })
     (with_leaf s.1 (record t { ahead = s.0 }))
 leaf_grown declared o tokens left last u t first token l s f is =
-    let leaves = u.gathering.leaves in
-    let symbols = u.gathering.symbols in
-    let ops = operands_of declared o tokens leaves in
-    let count = operands_count declared o tokens leaves in
+    let leaves = u.gathering.leaves in let symbols = u.gathering.symbols in
+    let ops = operands_of declared o tokens leaves in let count = operands_count declared o tokens leaves in
     let found : operand_behind declared o tokens l (ahead_of declared o tokens leaves) ≡ s =
     ap (λ (a : Table Place). operand_behind declared o tokens l a) f.ahead ∙ is in
     let more : operands_of declared o tokens (leaves ++ l ∷ []) ≡ ops ++ s.1 ∷ [] =
@@ -345,11 +337,9 @@ leaf_grown declared o tokens left last u t first token l s f is =
       goes_on = f.goes_on;
       counts = f.counts;
       ahead = ahead_more declared o tokens leaves l ∙ ap (λ (p : Table Place × Operand). p.0) found;
-      inside =
-          subst (λ i. AreIn i (symbols ++ new ∷ [])) (sym (length-append leaves (l ∷ [])))
+      inside = subst (λ i. AreIn i (symbols ++ new ∷ [])) (sym (length-append leaves (l ∷ [])))
           (in_append (length leaves + 1) symbols (new ∷ []) (all_in_more (length leaves) symbols f.inside) (omega arith, tt));
-      stands =
-          subst (λ (x : Gathered). Stands (t.is_false || is_never s.1) (number_in s.1 ∷ t.values) x)
+      stands = subst (λ (x : Gathered). Stands (t.is_false || is_never s.1) (number_in s.1 ∷ t.values) x)
           (sym (ap (λ (q : List Operand). gathered Wanted.Constant 0 q (symbols ++ new ∷ []) nothing_gathered) more
           ∙ gathered_append symbols (new ∷ []) (ops ++ s.1 ∷ []) nothing_gathered
           ∙ ap (λ (x : Operand). with_operand first token x (gathered Wanted.Constant 0 (ops ++ s.1 ∷ []) symbols nothing_gathered))
@@ -363,8 +353,7 @@ last_goes : (declared : ℕ) (o : Out) (tokens left : List SourceToken) (token :
     Follows declared o tokens left (Some token) u t →
     Follows declared o tokens left (Some token) (unit_stepped GatherStep.Leaf u) (with_leaf (token_operand declared o token) t)
 last_goes declared o tokens left token u t f =
-    let at = last_leaf u in
-    let alone = is_alone at u in
+    let at = last_leaf u in let alone = is_alone at u in
     subst (λ (k : Option TokenKind). Follows declared o tokens left (Some token) (record u { gathering = with_last at alone k u.gathering })
     (with_leaf (token_operand declared o token) t)) (sym f.ends.1)
     (leaf_grown declared o tokens left (Some token) u t (order at) (order at) (told_leaf alone (leaf_of at token.kind))
@@ -387,8 +376,7 @@ step_goes declared o tokens left token GatherStep.System u t f =
 step_goes declared o tokens left token (GatherStep.Prefix op) u t f =
     let order = latest u.gathering.firsts - 1 in
     single_goes declared o tokens left (Some token) u t op (Some order) (Symbol.Prefix order op)
-    (beginning order u.gathering.firsts) t.values f
-    refl (tt, tt) (λ g. refl)
+    (beginning order u.gathering.firsts) t.values f refl (tt, tt) (λ g. refl)
 step_goes declared o tokens left token (GatherStep.Suffix op) u t f =
     single_goes declared o tokens left (Some token) u t op None (Symbol.Suffix op) u.gathering.firsts t.values f refl (tt, tt) (λ g. refl)
 step_goes declared o tokens left token (GatherStep.Two op) u t f =
@@ -402,8 +390,7 @@ step_goes declared o tokens left token GatherStep.List u t f =
     (ap (λ (l : List ℕ). 0 ∷ l) f.counts))
 step_goes declared o tokens left token GatherStep.Part u t f =
     inr (kept declared o tokens left (Some token) u t u.gathering.firsts (one_more u.gathering.counts) u.gathering.brackets
-    (one_more t.counts) f
-    (ap one_more f.counts))
+    (one_more t.counts) f (ap one_more f.counts))
 step_goes declared o tokens left token GatherStep.Call u t f =
     let given = latest u.gathering.counts in
     call_goes declared o tokens left (Some token) u t given (drop given u.gathering.firsts) (drop (latest t.counts) t.values) f
@@ -411,12 +398,10 @@ step_goes declared o tokens left token GatherStep.Call u t f =
 step_goes declared o tokens left token (GatherStep.Test op) u t f =
     let parts = latest u.gathering.counts in
     subst (λ i. Goes declared o tokens left (Some token) (unit_stepped (GatherStep.Test op) u) (without_list (test_taken op i t)))
-    (ap latest f.counts)
-    (test_by_op declared o tokens left (Some token) u t op parts (drop parts u.gathering.firsts) f)
+    (ap latest f.counts) (test_by_op declared o tokens left (Some token) u t op parts (drop parts u.gathering.firsts) f)
 step_goes declared o tokens left token GatherStep.Bracket u t f =
     inr (kept declared o tokens left (Some token) u t u.gathering.firsts u.gathering.counts
-    (order (length u.tokens - 1) ∷ u.gathering.brackets)
-    t.counts f f.counts)
+    (order (length u.tokens - 1) ∷ u.gathering.brackets) t.counts f f.counts)
 step_goes declared o tokens left token GatherStep.Bracketed u t f =
     inr (closed_goes declared o tokens left (Some token) u t u.gathering.brackets f)
 
@@ -532,15 +517,7 @@ all_go declared o tokens (token ∷ left) k r same goes =
     (took_goes declared o tokens left token k r same goes)
 
 begins : (declared : ℕ) (o : Out) (tokens : List SourceToken) → Follows declared o tokens tokens None no_unit no_truth
-begins declared o tokens = record {
-  whole = refl;
-  ends = tt;
-  goes_on = refl;
-  counts = refl;
-  ahead = refl;
-  inside = tt;
-  stands = (tt, refl);
-}
+begins declared o tokens = record { whole = refl; ends = tt; goes_on = refl; counts = refl; ahead = refl; inside = tt; stands = (tt, refl) }
 
 -- The end
 
@@ -554,29 +531,24 @@ same_bool : (a b : Bool) → Some a ≡ Some b → a ≡ b
 same_bool a b e = ap (λ (x : Option Bool). unwrap_or x a) e
 
 verdict_alive : (values : List (Option ℕ)) (trees : List Rooted) (f : Option Finding) (b : Bool) → AreValues values trees → f ≡ None →
-    truth_by values ≡ Some b →
-    b ≡ is_true_by (number_of (map tree_in (reverse trees))) (roots_finding Wanted.Constant 0 (reverse trees) f)
+    truth_by values ≡ Some b → b ≡ is_true_by (number_of (map tree_in (reverse trees))) (roots_finding Wanted.Constant 0 (reverse trees) f)
 verdict_alive [] trees f b are none e = absurd (cc e)
 verdict_alive (None ∷ w ∷ values) trees f b are none e = absurd (cc e)
 verdict_alive ((Some n) ∷ w ∷ values) trees f b are none e = absurd (cc e)
 verdict_alive (v ∷ []) [] f b are none e = absurd are
 verdict_alive (v ∷ []) (r ∷ q ∷ trees) f b are none e = absurd are.1
-verdict_alive ((Some n) ∷ []) (r ∷ []) f b are none e =
-    sym (same_bool (not (n == 0)) b e)
+verdict_alive ((Some n) ∷ []) (r ∷ []) f b are none e = sym (same_bool (not (n == 0)) b e)
     ∙ sym (ap (λ x. is_true_by (number_of (x ∷ [])) (constant_finding 0 (kind_of x) (value_finding_of (kind_of x) r.origin.token None)))
-    are.0)
-    ∙ sym (ap (λ x. is_true_by (number_of (r.tree ∷ [])) (constant_finding 0 (kind_of r.tree)
+    are.0) ∙ sym (ap (λ x. is_true_by (number_of (r.tree ∷ [])) (constant_finding 0 (kind_of r.tree)
     (value_finding_of (kind_of r.tree) r.origin.token x))) none)
-verdict_alive (None ∷ []) (r ∷ []) f b are none e =
-    sym (same_bool false b e)
+verdict_alive (None ∷ []) (r ∷ []) f b are none e = sym (same_bool false b e)
     ∙ sym (ap (λ x. is_true_by (number_of (x ∷ [])) (constant_finding 0 (kind_of x) (value_finding_of (kind_of x) r.origin.token f)))
     are.0.1)
 
 verdict_is : (f : Bool) (values : List (Option ℕ)) (g : Gathered) (b : Bool) → Stands f values g →
     (if f then Some false else truth_by values) ≡ Some b →
     b ≡ is_true_by (number_of (map tree_in (reverse g.trees))) (roots_finding Wanted.Constant 0 (reverse g.trees) g.finding)
-verdict_is true values g b stands e =
-    sym (same_bool false b e)
+verdict_is true values g b stands e = sym (same_bool false b e)
     ∙ sym (never_true (number_of (map tree_in (reverse g.trees))) (roots_finding Wanted.Constant 0 (reverse g.trees) g.finding)
     (wrong_found g stands.1))
 verdict_is false values g b stands e = verdict_alive values g.trees g.finding b stands.0 stands.1 e
@@ -589,12 +561,10 @@ truth_found declared o tokens last k t b goes e = elim (bool_cases t.is_odd) [
   | inr even ↦ elim goes [
     | inl is ↦ (let never : true ≡ false = sym is ∙ even in cc)
     | inr f ↦
-        let leaves = k.unit.gathering.leaves in
-        let symbols = k.unit.gathering.symbols in
+        let leaves = k.unit.gathering.leaves in let symbols = k.unit.gathering.symbols in
         verdict_is t.is_false t.values (now_of declared o tokens k.unit.gathering) b f.stands
         (sym (ap (λ x. if x then None else if t.is_false then Some false else truth_by t.values) even) ∙ e)
-        ∙ ap (λ (l : List SourceToken). (verdict_with (operands_of declared o l leaves) k).is_true)
-        (f.whole ∙ append-nil k.unit.tokens)
+        ∙ ap (λ (l : List SourceToken). (verdict_with (operands_of declared o l leaves) k).is_true) (f.whole ∙ append-nil k.unit.tokens)
   ]
 ]
 

@@ -114,24 +114,19 @@ operands_count declared o tokens leaves = omega (arith, count_from declared o to
 
 -- the operand of one leaf more is the last one
 pub last_operand : (ops : List Operand) (x : Operand) (n : ℕ) → length ops ≡ n → operand_at (ops ++ x ∷ []) n ≡ x
-last_operand ops x n is =
-    ap (λ i. operand_at (ops ++ x ∷ []) i) (sym is) ∙ get_or-append_seam ops x [] (Operand.Known 0)
+last_operand ops x n is = ap (λ i. operand_at (ops ++ x ∷ []) i) (sym is) ∙ get_or-append_seam ops x [] (Operand.Known 0)
 
 -- The operand of a leaf by its token alone
 
 name_alone : (declared : ℕ) (o : Out) (tokens : List SourceToken) (at : ℕ) (t : SourceToken) (is_alone : Bool) →
-    slice_get tokens at ≡ Some t →
-    leaf_operand declared o.names o.code.scale tokens (told_leaf is_alone (Leaf.Name at))
+    slice_get tokens at ≡ Some t → leaf_operand declared o.names o.code.scale tokens (told_leaf is_alone (Leaf.Name at))
     ≡ leaf_operand declared o.names o.code.scale (t ∷ []) (Leaf.Name 0)
-name_alone declared o tokens at t true is =
-    ap (λ (x : Option SourceToken). name_operand declared o.names (bytes_by (name_by x))) is
-name_alone declared o tokens at t false is =
-    ap (λ (x : Option SourceToken). name_operand declared o.names (bytes_by (name_by x))) is
+name_alone declared o tokens at t true is = ap (λ (x : Option SourceToken). name_operand declared o.names (bytes_by (name_by x))) is
+name_alone declared o tokens at t false is = ap (λ (x : Option SourceToken). name_operand declared o.names (bytes_by (name_by x))) is
 
 -- a leaf of a kind at a place, and the same leaf of the token alone
 leaf_alone : (declared : ℕ) (o : Out) (tokens : List SourceToken) (at : ℕ) (t : SourceToken) (kind : TokenKind) (is_alone : Bool) →
-    slice_get tokens at ≡ Some t →
-    leaf_operand declared o.names o.code.scale tokens (told_leaf is_alone (leaf_of at kind))
+    slice_get tokens at ≡ Some t → leaf_operand declared o.names o.code.scale tokens (told_leaf is_alone (leaf_of at kind))
     ≡ leaf_operand declared o.names o.code.scale (t ∷ []) (leaf_of 0 kind)
 leaf_alone declared o tokens at t (TokenKind.Number n) true is = refl
 leaf_alone declared o tokens at t (TokenKind.Number n) false is = refl
@@ -161,8 +156,7 @@ leaf_plain declared o tokens at kind false ahead = refl
 pub leaf_is : (declared : ℕ) (o : Out) (tokens : List SourceToken) (at : ℕ) (t : SourceToken) (is_alone : Bool) (ahead : Table Place) →
     slice_get tokens at ≡ Some t → operand_behind declared o tokens (told_leaf is_alone (leaf_of at t.kind)) ahead
     ≡ (ahead, token_operand declared o t)
-leaf_is declared o tokens at t is_alone ahead is =
-    leaf_plain declared o tokens at t.kind is_alone ahead
+leaf_is declared o tokens at t is_alone ahead is = leaf_plain declared o tokens at t.kind is_alone ahead
     ∙ ap (λ (x : Operand). (ahead, x)) (leaf_alone declared o tokens at t t.kind is_alone is)
 
 pub action_is : (declared : ℕ) (o : Out) (tokens : List SourceToken) (at : ℕ) (t : SourceToken) (ahead : Table Place) →
@@ -172,5 +166,4 @@ action_is declared o tokens at t ahead is = ap (λ (x : Option SourceToken). loo
 pub system_is : (declared : ℕ) (o : Out) (tokens : List SourceToken) (at : ℕ) (t : SourceToken) (ahead : Table Place) →
     slice_get tokens at ≡ Some t → operand_behind declared o tokens (Leaf.System at) ahead
     ≡ (ahead, system_operand (bytes_of (name_of t)) o.code.scale)
-system_is declared o tokens at t ahead is =
-    ap (λ (x : Option SourceToken). (ahead, system_operand (bytes_of (name_by x)) o.code.scale)) is
+system_is declared o tokens at t ahead is = ap (λ (x : Option SourceToken). (ahead, system_operand (bytes_of (name_by x)) o.code.scale)) is

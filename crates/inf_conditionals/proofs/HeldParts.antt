@@ -6,7 +6,7 @@ use Rattle.inf_grammar.specs.Language.{grammar, known}
 use Rattle.inf_output.specs.Output.{Out}
 use Rattle.inf_unit.specs.{Tokens.SourceToken, Tokens.atom_of, Units.Unit as Spoken}
 use Rattle.inf_conditionals.specs.Condition.{Condition, condition_begun, condition_took, verdict_of}
-use Rattle.inf_conditionals.specs.{Held.IsHeld, Held.condition_by, Held.has_tokens, Held.unfolded, Truths.truth_of}
+use Rattle.inf_conditionals.specs.{Held.IsHeld, Held.condition_by, Held.has_tokens, Truths.truth_of}
 use Rattle.inf_conditionals.specs.{declared.condition.Held.Held}
 use Rattle.inf_conditionals.specs.ReadAgain.{IsReadBy, all_fit, all_taken, condition_at}
 use Rattle.inf_conditionals.proofs.{Following.truth_is, Waiting.read_by_more, Waiting.taken_more}
@@ -14,21 +14,6 @@ use Rattle.inf_conditionals.proofs.{Following.truth_is, Waiting.read_by_more, Wa
 -- the tokens are up to date, with the unit or without
 pub either_there : (h : Held) → (h ≡ Held.Both) ⊎ (h ≡ Held.Tokens) → has_tokens h ≡ true
 either_there h is = elim is [ inl both ↦ ap has_tokens both | inr alone ↦ ap has_tokens alone ]
-
--- the unit is brought up to date
-pub unfolded_held : (h : Held) (stack : List (Symbol Action)) (u : Spoken) (ts : List SourceToken) (left : List (Symbol Action))
-    (new : Spoken) →
-    IsHeld h stack u ts → condition_at left new ≡ condition_by h stack u ts → IsHeld (unfolded h) left new ts
-unfolded_held Held.Both stack u ts left new held is = (held.0, is ∙ held.1)
-unfolded_held Held.Tokens stack u ts left new held is = (held.0, is)
-unfolded_held Held.Unit stack u ts left new held is = tt
-
-pub unfolded_view : (h : Held) (stack : List (Symbol Action)) (u : Spoken) (ts : List SourceToken) (left : List (Symbol Action))
-    (new : Spoken) →
-    condition_at left new ≡ condition_by h stack u ts → condition_by (unfolded h) left new ts ≡ condition_by h stack u ts
-unfolded_view Held.Both stack u ts left new is = is
-unfolded_view Held.Tokens stack u ts left new is = is
-unfolded_view Held.Unit stack u ts left new is = is
 
 -- the tokens lead to what the condition is
 pub reads_by : (h : Held) (stack : List (Symbol Action)) (u : Spoken) (ts : List SourceToken) → has_tokens h ≡ true → IsHeld h stack u ts →
@@ -60,10 +45,8 @@ pub tokens_more : (h : Held) (stack : List (Symbol Action)) (u : Spoken) (ts now
     left ≡ (read grammar known (atom_of t) stack).left → now ≡ ts ++ t ∷ [] →
     (all_fit now condition_begun ≡ true) × (left ≡ (all_taken now condition_begun).stack)
 tokens_more h stack u ts now t left there held fit is more =
-    let k = condition_by h stack u ts in
-    let rest = rest_is h stack u ts there held in
-    let reads : IsReadBy now (condition_took t k) =
-    subst (λ (l : List SourceToken). IsReadBy l (condition_took t k)) (sym more)
+    let k = condition_by h stack u ts in let rest = rest_is h stack u ts there held in
+    let reads : IsReadBy now (condition_took t k) = subst (λ (l : List SourceToken). IsReadBy l (condition_took t k)) (sym more)
     (read_by_more ts t k (condition_took t k) (reads_by h stack u ts there held)
     (ap (λ (s : List (Symbol Action)). fits grammar known (atom_of t) s) (sym rest) ∙ fit) refl) in (
       reads.0,
@@ -81,6 +64,5 @@ tokens_took h stack u ts now t there held more =
 pub truth_held : (h : Held) (stack : List (Symbol Action)) (u : Spoken) (ts : List SourceToken) (declared : ℕ) (o : Out) (b : Bool) →
     has_tokens h ≡ true → IsHeld h stack u ts → truth_of declared o ts ≡ Some b →
     b ≡ (verdict_of declared o (condition_by h stack u ts)).is_true
-truth_held h stack u ts declared o b there held found =
-    truth_is declared o ts b found
+truth_held h stack u ts declared o b there held found = truth_is declared o ts b found
     ∙ ap (λ (k : Condition). (verdict_of declared o k).is_true) (sym (reads_by h stack u ts there held).1)

@@ -17,8 +17,7 @@ pub last_is : (xs : List Conditional) (x : Conditional) → 0 < length xs → x 
 last_is xs x some last =
     let same : length (reverse xs) ≡ length xs = length-reverse xs in
     let place : length xs - 1 - 0 ≡ length xs - 1 = omega arith in
-    front_is (reverse xs) x (omega (arith, some, same))
-    (get_or-reverse xs 0 x some ∙ ap (λ n. get_or xs n x) place ∙ sym last)
+    front_is (reverse xs) x (omega (arith, some, same)) (get_or-reverse xs 0 x some ∙ ap (λ n. get_or xs n x) place ∙ sym last)
 
 set_at : (ys : List Conditional) (y z : Conditional) (n : ℕ) → n ≡ length (reverse ys) →
     slice_set (reverse ys ++ y ∷ []) n z ≡ reverse ys ++ z ∷ []
@@ -31,11 +30,8 @@ turned_list : (ys : List Conditional) (y z : Conditional) →
 turned_list ys y z =
     let split : reverse (y ∷ ys) ≡ reverse ys ++ y ∷ [] = reverse-append (y ∷ []) ys in
     let size : length (reverse (y ∷ ys)) - 1 ≡ length (reverse ys) = omega (arith, length-reverse (y ∷ ys), length-reverse ys) in
-    ap (λ n. reverse (slice_set (reverse (y ∷ ys)) n z)) size
-    ∙ ap (λ xs. reverse (slice_set xs (length (reverse ys)) z)) split
-    ∙ ap reverse (set_at ys y z (length (reverse ys)) refl)
-    ∙ reverse-append (reverse ys) (z ∷ [])
-    ∙ ap (λ xs. z ∷ xs) (reverse-reverse ys)
+    ap (λ n. reverse (slice_set (reverse (y ∷ ys)) n z)) size ∙ ap (λ xs. reverse (slice_set xs (length (reverse ys)) z)) split
+    ∙ ap reverse (set_at ys y z (length (reverse ys)) refl) ∙ reverse-append (reverse ys) (z ∷ []) ∙ ap (λ xs. z ∷ xs) (reverse-reverse ys)
 
 -- setting the last of some conditionals sets the first of them backwards
 pub last_set : (xs : List Conditional) (x z : Conditional) → 0 < length xs → x ≡ get_or xs (length xs - 1) x →

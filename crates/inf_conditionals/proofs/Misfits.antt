@@ -63,10 +63,8 @@ fits_nothing : (atom : ℕ) → IsOut atom → (symbols : List (Symbol Action)) 
 fits_nothing atom o [] = refl
 fits_nothing atom o (Symbol.Token class ∷ symbols) = o.classes class
 fits_nothing atom o (Symbol.Act a ∷ symbols) = fits_nothing atom o symbols
-fits_nothing atom o (Symbol.Rule rule ∷ symbols) =
-    ap (λ b. b || (known.is_empty rule && fits grammar known atom symbols)) (o.rules rule)
-    ∙ ap (λ b. known.is_empty rule && b) (fits_nothing atom o symbols)
-    ∙ and-false (known.is_empty rule)
+fits_nothing atom o (Symbol.Rule rule ∷ symbols) = ap (λ b. b || (known.is_empty rule && fits grammar known atom symbols)) (o.rules rule)
+    ∙ ap (λ b. known.is_empty rule && b) (fits_nothing atom o symbols) ∙ and-false (known.is_empty rule)
 
 pub bad_fits_nothing : (symbols : List (Symbol Action)) → fits grammar known bad_atom symbols ≡ false
 bad_fits_nothing symbols = fits_nothing bad_atom (out bad_atom bad_classes bad_rules refl) symbols

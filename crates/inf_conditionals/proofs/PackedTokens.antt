@@ -26,8 +26,7 @@ parts_by false (TokenKind.Mark m) n few = ap (λ i. (TokenKind.Mark m, i)) (few 
 parts_by false (TokenKind.Bad b) n few = ap (λ i. (TokenKind.Bad b, i)) (few refl)
 parts_by false TokenKind.End n few = ap (λ i. (TokenKind.End, i)) (few refl)
 
-parts_back : (kind : TokenKind) (n : ℕ) →
-    parts_of (short_kind kind n) (n % 256) (beside_of (short_kind kind n) kind n) ≡ (kind, n)
+parts_back : (kind : TokenKind) (n : ℕ) → parts_of (short_kind kind n) (n % 256) (beside_of (short_kind kind n) kind n) ≡ (kind, n)
 parts_back kind n = parts_by (nat_lt 255 n) kind n (λ few. mod-eq_of_lt (omega (arith, ltb-false 255 n few)))
 
 kind_by : (b : Bool) (kind : TokenKind) (n : ℕ) →
@@ -98,16 +97,12 @@ one_more : (kind : TokenKind) (place : Place) (is_class : Bool) (own : List ℕ)
     unpacked (ps ++ packed_of kind place is_class n ∷ []) (beside ++ beside_of (short_kind kind n) kind n) (bytes ++ own)
     ≡ unpacked ps beside bytes ++ the_token kind place is_class own ∷ []
 one_more kind place is_class own [] beside bytes are =
-    let n = length own in
-    let p = packed_of kind place is_class n in
-    let more = beside_of (short_kind kind n) kind n in
+    let n = length own in let p = packed_of kind place is_class n in let more = beside_of (short_kind kind n) kind n in
     ap (λ (l : List Beside). unpacked (p ∷ []) (l ++ more) (bytes ++ own)) are.0
     ∙ ap (λ (l : List ℕ). unpacked (p ∷ []) more (l ++ own)) are.1 ∙ one_alone kind place is_class own
 one_more kind place is_class own (q ∷ ps) beside bytes are =
-    let n = length own in
-    let last = packed_of kind place is_class n ∷ [] in
-    let more = beside_of (short_kind kind n) kind n in
-    let s = parts_of q.kind q.count beside in
+    let n = length own in let last = packed_of kind place is_class n ∷ [] in
+    let more = beside_of (short_kind kind n) kind n in let s = parts_of q.kind q.count beside in
     ap (λ (x : TokenKind × ℕ). token_of x.0 q (take x.1 (bytes ++ own))
     ∷ unpacked (ps ++ last) (others_left q.kind (beside ++ more)) (drop x.1 (bytes ++ own)))
     (parts_more q.kind q.count beside more are.0.kind)
@@ -116,8 +111,7 @@ one_more kind place is_class own (q ∷ ps) beside bytes are =
     ∙ ap (λ (l : List Beside). token_of s.0 q (take s.1 bytes) ∷ unpacked (ps ++ last) l (drop s.1 (bytes ++ own)))
     (left_more q.kind beside more are.0.kind)
     ∙ ap (λ (l : List ℕ). token_of s.0 q (take s.1 bytes) ∷ unpacked (ps ++ last) (others_left q.kind beside ++ more) l)
-    (drop-append-le s.1 bytes own are.0.there)
-    ∙ ap (λ (l : List SourceToken). token_of s.0 q (take s.1 bytes) ∷ l)
+    (drop-append-le s.1 bytes own are.0.there) ∙ ap (λ (l : List SourceToken). token_of s.0 q (take s.1 bytes) ∷ l)
     (one_more kind place is_class own ps (others_left q.kind beside) (drop s.1 bytes) are.1)
 
 alone_packed : (kind : TokenKind) (place : Place) (is_class : Bool) (own : List ℕ) → is_short kind own ≡ true →
@@ -131,34 +125,25 @@ alone_packed kind place is_class own short =
         short = ap (λ (s : TokenKind × ℕ). is_short s.0 (take s.1 own)) parts ∙ ap (λ (l : List ℕ). is_short kind l) (take-length own)
             ∙ short;
       },
-      (
-        none_by (nat_lt 255 n) kind n,
-        ap (λ (s : TokenKind × ℕ). drop s.1 own) parts ∙ drop-length own,
-      ),
+      (none_by (nat_lt 255 n) kind n, ap (λ (s : TokenKind × ℕ). drop s.1 own) parts ∙ drop-length own),
     )
 
 more_packed : (kind : TokenKind) (place : Place) (is_class : Bool) (own : List ℕ) (ps : List Packed) (beside : List Beside)
-    (bytes : List ℕ) →
-    is_short kind own ≡ true → ArePacked ps beside bytes → let n = length own in
+    (bytes : List ℕ) → is_short kind own ≡ true → ArePacked ps beside bytes → let n = length own in
     ArePacked (ps ++ packed_of kind place is_class n ∷ []) (beside ++ beside_of (short_kind kind n) kind n) (bytes ++ own)
 more_packed kind place is_class own [] beside bytes short are =
-    let n = length own in
-    let p = packed_of kind place is_class n in
-    let more = beside_of (short_kind kind n) kind n in
+    let n = length own in let p = packed_of kind place is_class n in let more = beside_of (short_kind kind n) kind n in
     subst (λ (l : List Beside). ArePacked (p ∷ []) (l ++ more) (bytes ++ own)) (sym are.0)
     (subst (λ (l : List ℕ). ArePacked (p ∷ []) more (l ++ own)) (sym are.1) (alone_packed kind place is_class own short))
 more_packed kind place is_class own (q ∷ ps) beside bytes short are =
-    let n = length own in
-    let last = packed_of kind place is_class n ∷ [] in
-    let more = beside_of (short_kind kind n) kind n in
-    let s = parts_of q.kind q.count beside in
+    let n = length own in let last = packed_of kind place is_class n ∷ [] in
+    let more = beside_of (short_kind kind n) kind n in let s = parts_of q.kind q.count beside in
     let same = parts_more q.kind q.count beside more are.0.kind in
     let there = are.0.there in (
       record {
         kind = kind_more q.kind beside more are.0.kind;
         there = omega (arith, ap (λ (x : TokenKind × ℕ). x.1) same, there, length-append bytes own);
-        short =
-            ap (λ (x : TokenKind × ℕ). is_short x.0 (take x.1 (bytes ++ own))) same
+        short = ap (λ (x : TokenKind × ℕ). is_short x.0 (take x.1 (bytes ++ own))) same
             ∙ ap (λ (l : List ℕ). is_short s.0 l) (take-append-le s.1 bytes own there) ∙ are.0.short;
       },
       subst (λ (x : TokenKind × ℕ). ArePacked (ps ++ last) (others_left q.kind (beside ++ more)) (drop x.1 (bytes ++ own))) (sym same)
@@ -191,5 +176,4 @@ added_packed kind place is_class own ps now beside with_more bytes with_own m sh
 
 pub packed_count : (ps : List Packed) (beside : List Beside) (bytes : List ℕ) → length (unpacked ps beside bytes) ≡ length ps
 packed_count [] beside bytes = refl
-packed_count (p ∷ ps) beside bytes =
-    ap suc (packed_count ps (others_left p.kind beside) (drop (parts_of p.kind p.count beside).1 bytes))
+packed_count (p ∷ ps) beside bytes = ap suc (packed_count ps (others_left p.kind beside) (drop (parts_of p.kind p.count beside).1 bytes))

@@ -1,23 +1,18 @@
 -- Names that are no words of conditionals by their length or their first letter, and tokens that only pass in a side that is left out.
 use Rattle.std.proofs.Common.{◌≡◌, ◌<◌, ◌+◌, ◌&&◌, ◌||◌, ℕ, Bool, true, false, cond, List, [], ◌∷◌, length, map, get_or, nat_eq}
-use Rattle.std.proofs.Common.{nat_lt, Option, Some, None, slice_get, suc, refl, sym, ap, ◌∙◌, arith, is_none, is_some}
+use Rattle.std.proofs.Common.{nat_lt, Option, Some, None, slice_get, suc, refl, sym, ap, ◌∙◌, arith, is_none}
 use Rattle.std.proofs.{Math.Bool.and-false, Math.ListN.get_or-map, lemmas.List.length-map, lemmas.Slice.Eq.bytes_eq-Decides}
 use Rattle.std.proofs.lemmas.Bool.{and_parts, false_from_ne_true, ltb-true}
 use Rattle.std.specs.{Char.to_ascii_lowercase, Str.str_eq_ignore_ascii_case}
-use Rattle.inf_scanner.specs.{declared.tokens.Mark.Mark, declared.tokens.Place.Place, declared.tokens.TokenKind.TokenKind}
 use Rattle.inf_syntax.specs.{Atoms.keyword_of, Atoms.place_in, Words.keywords, Words.words, declared.words.Keyword.Keyword}
-use Rattle.inf_output.specs.Output.{Out}
-use Rattle.inf_unit.specs.{Atoms.keyword_of_kind, Tokens.SourceToken, Tokens.is_end, Tokens.is_mark, Tokens.keyword}
-use Rattle.inf_conditionals.specs.{Open.Conditions, Words.word_of, declared.filtered.Site.Site, declared.open.LeftOut.LeftOut}
+use Rattle.inf_conditionals.specs.{Words.word_of}
 use Rattle.inf_conditionals.specs.{declared.words.ConditionalWord.ConditionalWord}
-use Rattle.inf_conditionals.specs.Judging.{judged, judged_by, offered, passed, passed_by}
 
 -- Lemmas about words of conditionals
 
 -- Tells whether bytes without capitals have five to seven letters, of which the first is that of `else` or of `if`.
 abbrev looks : List ℕ → Bool
-looks lower =
-    nat_lt 4 (length lower) && (nat_lt (length lower) 8 && (nat_eq (get_or lower 0 0) 101 || nat_eq (get_or lower 0 0) 105))
+looks lower = nat_lt 4 (length lower) && (nat_lt (length lower) 8 && (nat_eq (get_or lower 0 0) 101 || nat_eq (get_or lower 0 0) 105))
 
 abbrev lowered : List ℕ → List ℕ
 lowered s = map to_ascii_lowercase s
@@ -64,23 +59,20 @@ no_word s n = no_word_in s words keywords they_look n
 pub short_is_no_word : (s : List ℕ) → length s < 5 → word_of (keyword_of s) ≡ None
 short_is_no_word s short =
     let size = length-map s to_ascii_lowercase in
-    let first = false_from_ne_true (nat_lt 4 (length (lowered s)))
-    (λ e. omega (arith, ltb-true 4 (length (lowered s)) e, size, short)) in
+    let first = false_from_ne_true (nat_lt 4 (length (lowered s))) (λ e. omega (arith, ltb-true 4 (length (lowered s)) e, size, short)) in
     no_word s (ap (λ (b : Bool). b && (nat_lt (length (lowered s)) 8
     && (nat_eq (get_or (lowered s) 0 0) 101 || nat_eq (get_or (lowered s) 0 0) 105))) first)
 
 pub long_is_no_word : (s : List ℕ) → 7 < length s → word_of (keyword_of s) ≡ None
 long_is_no_word s long =
     let size = length-map s to_ascii_lowercase in
-    let second = false_from_ne_true (nat_lt (length (lowered s)) 8)
-    (λ e. omega (arith, ltb-true (length (lowered s)) 8 e, size, long)) in
+    let second = false_from_ne_true (nat_lt (length (lowered s)) 8) (λ e. omega (arith, ltb-true (length (lowered s)) 8 e, size, long)) in
     no_word s (ap (λ (b : Bool). nat_lt 4 (length (lowered s))
     && (b && (nat_eq (get_or (lowered s) 0 0) 101 || nat_eq (get_or (lowered s) 0 0) 105))) second
     ∙ and-false (nat_lt 4 (length (lowered s))))
 
 pub other_is_no_word : (s : List ℕ) → (nat_eq (to_ascii_lowercase (get_or s 0 0)) 101 || nat_eq (to_ascii_lowercase (get_or s 0 0)) 105)
-    ≡ false
-    → word_of (keyword_of s) ≡ None
+    ≡ false → word_of (keyword_of s) ≡ None
 other_is_no_word s other =
     let letter = ap (λ (n : ℕ). nat_eq n 101 || nat_eq n 105) (get_or-map to_ascii_lowercase s 0 0) ∙ other in
     no_word s (ap (λ (b : Bool). nat_lt 4 (length (lowered s)) && (nat_lt (length (lowered s)) 8 && b)) letter
@@ -88,22 +80,3 @@ other_is_no_word s other =
     ∙ and-false (nat_lt 4 (length (lowered s))))
 
 -- Lemmas about tokens
-
--- In a side that is left out a token only passes if it is neither the end nor a `#` nor a word of a conditional.
-pub only_passes : (c : Conditions) (kind : TokenKind) (bytes : List ℕ) → is_some c.left_out ≡ true → is_end kind ≡ false
-    → is_mark Mark.Hash kind ≡ false → word_of (keyword_of_kind kind bytes) ≡ None → (site : Site) (o : Out) (place : Place)
-    (is_class : Bool)
-    → judged site o (record { kind = kind; bytes = bytes; place = place; is_class = is_class }) c ≡ passed (record c { sign = None })
-only_passes c kind bytes out end hash word site o place is_class = by c.left_out refl out
-  where
-    t : SourceToken
-    t = record { kind = kind; bytes = bytes; place = place; is_class = is_class }
-
-    by : (left : Option LeftOut) → c.left_out ≡ left → is_some left ≡ true → judged site o t c ≡ passed (record c { sign = None })
-    by None e out = cc
-    by (Some side) e out =
-        ap (λ (left : Option LeftOut). judged_by left c.sign site o t c) e
-        ∙ ap (λ (b : Bool). cond b (offered false site o t (record c { left_out = None; sign = None }))
-        (passed (passed_by (word_of (keyword t)) t side c))) end
-        ∙ ap (λ (w : Option ConditionalWord). passed (passed_by w t side c)) word
-        ∙ ap (λ (b : Bool). passed (record c { sign = cond b (Some place) None })) hash

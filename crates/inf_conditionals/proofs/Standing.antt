@@ -37,8 +37,7 @@ two_stands true op va vb vs g v single stands e =
     (omega (arith, stands.0, fewer op g.trees two), wrong_two 0 op g two stands.1)
 two_stands false op va vb vs g (Some n) single stands e = two_there op va vb vs g.trees g.finding n stands.0 stands.1 e
 two_stands false op va vb vs g None single stands e =
-    let many = as_many (vb ∷ va ∷ vs) g.trees stands.0 in
-    let two : 2 ≤ length g.trees = omega (arith, many) in
+    let many = as_many (vb ∷ va ∷ vs) g.trees stands.0 in let two : 2 ≤ length g.trees = omega (arith, many) in
     (omega (arith, many, fewer op g.trees two), dead_two op va vb vs g.trees g.finding single stands.0 stands.1 e)
 
 -- An operator of one value
@@ -55,8 +54,7 @@ single_there op front None vs trees f n are none e = absurd (cc e)
 
 pub single_stands : (f : Bool) (op : Unary) (front va : Option ℕ) (vs : List (Option ℕ)) (g : Gathered) (v : Option ℕ) →
     Stands f (va ∷ vs) g → single_value op va ≡ v → Stands (f || is_none v) (v ∷ vs) (with_unary_of op front g)
-single_stands true op front va vs g v stands e =
-    (omega (arith, stands.0, same_many op front g.trees), wrong_unary op front g stands.1)
+single_stands true op front va vs g v stands e = (omega (arith, stands.0, same_many op front g.trees), wrong_unary op front g stands.1)
 single_stands false op front va vs g (Some n) stands e = single_there op front va vs g.trees g.finding n stands.0 stands.1 e
 single_stands false op front va vs g None stands e =
     let many = as_many (va ∷ vs) g.trees stands.0 in
@@ -97,8 +95,7 @@ test_of_first sense t va c vs bs [] v chain are e = absurd are
 test_of_first sense t va c vs bs (a ∷ trees) v chain are e = test_ends sense t va a c vs bs trees v are.0 chain are.1 e
 
 test_alive : (sense : Bool) (t : Test) (n : ℕ) (va : Option ℕ) (ws vs : List (Option ℕ)) (trees : List Rooted) (f : Option Finding)
-    (v : Option ℕ) →
-    AreValues ws trees → f ≡ None → drop (suc n) ws ≡ va ∷ vs → tested sense t va (reverse (take (suc n) ws)) ≡ v →
+    (v : Option ℕ) → AreValues ws trees → f ≡ None → drop (suc n) ws ≡ va ∷ vs → tested sense t va (reverse (take (suc n) ws)) ≡ v →
     Stands (is_none v) (v ∷ vs) (with_two_of 0 (test_op sense t) (listed 0 n (record { trees = trees; finding = f })))
 test_alive sense t n va [] vs trees f v are none left e = absurd (cc left)
 test_alive sense t n va (w ∷ ws) vs [] f v are none left e = absurd are
@@ -118,10 +115,8 @@ pub test_stands : (f sense : Bool) (t : Test) (n : ℕ) (va : Option ℕ) (ws vs
     Stands (f || is_none v) (v ∷ vs) (with_two_of 0 (test_op sense t) (listed 0 n g))
 test_stands true sense t n va ws vs g v stands left e =
     let op = test_op sense t in
-    let count : suc (length vs) ≡ length ws - suc n =
-    sym (ap (λ (l : List (Option ℕ)). length l) left) ∙ length-drop (suc n) ws in
-    let more : n < length g.trees = omega (arith, count, stands.0) in
-    let many = listed_length 0 n g more in
+    let count : suc (length vs) ≡ length ws - suc n = sym (ap (λ (l : List (Option ℕ)). length l) left) ∙ length-drop (suc n) ws in
+    let more : n < length g.trees = omega (arith, count, stands.0) in let many = listed_length 0 n g more in
     let two : 2 ≤ length (listed 0 n g).trees = omega (arith, many, count, stands.0) in (
       omega (arith, fewer op (listed 0 n g).trees two, many, count, stands.0),
       wrong_two 0 op (listed 0 n g) two (wrong_listed 0 n g more stands.1),
@@ -134,8 +129,7 @@ one_less : (n : ℕ) → suc n - 1 ≡ n
 one_less n = omega arith
 
 called_is : (n : ℕ) (g : Gathered) → called 0 (suc n) g ≡ call_joined 0 (suc n) (listed 0 n g)
-called_is n g =
-    ap (λ b. if b then with_unary_of Unary.Call None g else call_joined 0 (suc n) (listed 0 (suc n - 1) g)) (eqb-suc-zero n)
+called_is n g = ap (λ b. if b then with_unary_of Unary.Call None g else call_joined 0 (suc n) (listed 0 (suc n - 1) g)) (eqb-suc-zero n)
     ∙ ap (λ i. call_joined 0 (suc n) (listed 0 i g)) (one_less n)
 
 call_wrong : (given : ℕ) (g : Gathered) → given < length g.trees → Wrong (called 0 given g)
@@ -149,8 +143,7 @@ call_length zero g more = omega (arith, same_many Unary.Call None g.trees)
 call_length (suc n) g more =
     let many = listed_length 0 n g (omega (arith, more)) in
     let two : 2 ≤ length (listed 0 n g).trees = omega (arith, many, more) in
-    ap (λ (x : Gathered). length x.trees) (called_is n g)
-    ∙ omega (arith, fewer Binary.Call (listed 0 n g).trees two, many, more)
+    ap (λ (x : Gathered). length x.trees) (called_is n g) ∙ omega (arith, fewer Binary.Call (listed 0 n g).trees two, many, more)
 
 always : (f : Bool) (vs : List (Option ℕ)) (g : Gathered) → length vs ≡ length g.trees → Wrong g → Stands (f || true) vs g
 always true vs g many wrong = (many, wrong)
@@ -160,6 +153,5 @@ pub call_stands : (f : Bool) (given : ℕ) (va : Option ℕ) (ws vs : List (Opti
     drop given ws ≡ va ∷ vs → Stands (f || true) (None ∷ vs) (called 0 given g)
 call_stands f given va ws vs g stands left =
     let count : suc (length vs) ≡ length ws - given = sym (ap (λ (l : List (Option ℕ)). length l) left) ∙ length-drop given ws in
-    let many = counted_by f ws g stands in
-    let more : given < length g.trees = omega (arith, count, many) in
+    let many = counted_by f ws g stands in let more : given < length g.trees = omega (arith, count, many) in
     always f (None ∷ vs) (called 0 given g) (omega (arith, call_length given g more, count, many)) (call_wrong given g more)

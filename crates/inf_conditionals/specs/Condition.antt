@@ -72,8 +72,7 @@ abbrev pub verdict_by : Option ℕ → Option Finding → Verdict
 verdict_by number found = record { is_true = is_true_by number found; finding = finding_by number found }
 
 abbrev pub verdict_with : List Operand → Condition → Verdict
-verdict_with operands k =
-    verdict_by (number_of (map tree_in (trees_of Wanted.Constant 0 operands k.unit.gathering.symbols)))
+verdict_with operands k = verdict_by (number_of (map tree_in (trees_of Wanted.Constant 0 operands k.unit.gathering.symbols)))
     (judged Wanted.Constant 0 operands k.unit.gathering.symbols)
 
 -- the verdict on a condition, where `declared` names were declared by the directives before

@@ -100,10 +100,7 @@ begun word t place is_inner c = begun_by (awaits_of word) (record t { place = pl
 abbrev pub behind_front : Option ConditionalWord → SourceToken → Pending → Conditions → Behind
 behind_front None t p c = record {
   now = c;
-  judged = record none_handed {
-    sign = Some (record { place = p.place; handed = Forwarded.Kept });
-    token = Some Forwarded.Kept;
-  };
+  judged = record none_handed { sign = Some (record { place = p.place; handed = Forwarded.Kept }); token = Some Forwarded.Kept };
 }
 behind_front (Some word) t p c = begun word t p.place p.is_inner c
 
@@ -215,8 +212,7 @@ sign_handed place (Some h) = Some (record { place = place; handed = h })
 abbrev pub behind_sign : Option ConditionalWord → Place → Site → Out → SourceToken → Conditions → Behind
 behind_sign (Some word) place site o t c = begun word t place true (record c { sign = None })
 behind_sign None place site o t c =
-    let s = sign_offered c.pending place site (record c { sign = None }) in
-    let b = offered false site o t s.now in
+    let s = sign_offered c.pending place site (record c { sign = None }) in let b = offered false site o t s.now in
     record b { judged = record b.judged { sign = sign_handed place s.judged.token } }
 
 -- Definitions of a token of a side that is left out

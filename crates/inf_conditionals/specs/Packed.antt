@@ -25,13 +25,7 @@ beside_of _ kind count = []
 
 -- a token with these parts
 abbrev pub packed_as : ShortKind → Place → Bool → ℕ → Packed
-packed_as kind place is_class count = record {
-  line = place.line;
-  kind = kind;
-  file = place.file;
-  is_class = is_class;
-  count = count % 256;
-}
+packed_as kind place is_class count = record { line = place.line; kind = kind; file = place.file; is_class = is_class; count = count % 256 }
 
 abbrev pub packed_of : TokenKind → Place → Bool → ℕ → Packed
 packed_of kind place is_class count = packed_as (short_kind kind count) place is_class count

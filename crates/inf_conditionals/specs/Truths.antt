@@ -64,8 +64,7 @@ tested_behind sense test [] parts t = odd t
 tested_behind sense test (a ∷ values) parts t = with_value (tested sense test a parts) values t
 
 abbrev pub test_of : Bool → Test → ℕ → Truth → Truth
-test_of sense test count t =
-    if count == 0 then odd t else tested_behind sense test (drop count t.values) (reverse (take count t.values)) t
+test_of sense test count t = if count == 0 then odd t else tested_behind sense test (drop count t.values) (reverse (take count t.values)) t
 
 abbrev pub test_taken : Binary → ℕ → Truth → Truth
 test_taken (Binary.Test test) count t = test_of true test count t

@@ -21,8 +21,7 @@ waiting_in ((Waiting.Long k) ∷ others) tokens = box_value k ∷ waiting_in oth
 -- the tokens of each short one are there, and fit
 abbrev pub CanWait : List Waiting → List SourceToken → Type 0
 CanWait [] tokens = Unit {0}
-CanWait ((Waiting.Short n) ∷ others) tokens =
-    (n ≤ length tokens) × ((all_fit (drop (length tokens - n) tokens) condition_begun ≡ true)
+CanWait ((Waiting.Short n) ∷ others) tokens = (n ≤ length tokens) × ((all_fit (drop (length tokens - n) tokens) condition_begun ≡ true)
     × CanWait others (take (length tokens - n) tokens))
 CanWait ((Waiting.Long k) ∷ others) tokens = CanWait others tokens
 

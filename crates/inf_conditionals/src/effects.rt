@@ -76,8 +76,7 @@ impl Conditionals {
         Ok(())
     }
 
-    /// Leaves the second side of the latest conditional out, whose first side was kept. Returns whether there is no
-    /// such conditional.
+    /// Leaves the second side of the latest conditional out, whose first side was kept. Returns whether there is no such conditional.
     fn leave_second_out(&mut self) -> bool
         ensures unmatched { result ≡ is_second (latest self.old) }
         ensures same { result ≡ true → self.new ≡ self.old }

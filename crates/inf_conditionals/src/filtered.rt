@@ -20,9 +20,8 @@ pub struct Sign {
     pub handed: Forwarded,
 }
 
-/// The result of a token: the ways in which the `#` before it and then the token itself are handed on; the place where
-/// a directive begins that ends or turns a conditional which is not there; and the place where a conditional directive
-/// begins that has ended.
+/// The result of a token: the ways in which the `#` before it and then the token itself are handed on; the place where a directive begins
+/// that ends or turns a conditional which is not there; and the place where a conditional directive begins that has ended.
 #[derive(Clone, Copy)]
 pub struct Filtered {
     pub sign: Option<Sign>,

@@ -1,8 +1,6 @@
-//! The conditionals of a source: they decide which tokens are kept, and a conditional without its other end is
-//! reported.
+//! The conditionals of a source: they decide which tokens are kept, and a conditional without its other end is reported.
 //!
-//! They are between the lexers and the machine of the grammar, which sees kept tokens alone. Designer's Manual, fourth
-//! edition, section 38.
+//! They are between the lexers and the machine of the grammar, which sees kept tokens alone. Designer's Manual, fourth edition, section 38.
 #![tactic(auto)]
 
 mod asking;

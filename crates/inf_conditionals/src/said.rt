@@ -85,8 +85,7 @@ pub(crate) fn too_much(token: &SourceToken<'_>, extent: Extent) -> Option<Said>
     None
 }
 
-/// Returns the message and the place by which `finding`, about the condition with `unit`, is reported. Its directive begins at
-/// `directive`.
+/// Returns the message and the place by which `finding`, about the condition with `unit`, is reported. Its directive begins at `directive`.
 fn blame_of<'t>(directive: Place, unit: &'t Unit, finding: Finding) -> Diagnostic<'t>
     ensures { blamed result ≡ blame_at directive finding.error (slice_get (unit_of unit.now).tokens finding.order) }
 {

@@ -16,23 +16,21 @@ has key k = bytes_eq key k.items
 
 pub known_of-lookup : (key : List ℕ) (es : List (Key × Entry)) → known_of key (map as_named es) ≡ option_map known (lookup (has key) es)
 known_of-lookup key [] = refl
-known_of-lookup key (e ∷ es) = go (bytes_eq key e.0.items) (known_of-lookup key es)
-  where
-    go : (t : Bool) → known_of key (map as_named es) ≡ option_map known (lookup (has key) es) →
-        cond t (Some (known e.1)) (known_of key (map as_named es)) ≡ option_map known (cond t (Some e.1) (lookup (has key) es))
-    go true later = refl
-    go false later = later
+known_of-lookup key (e ∷ es) = go (bytes_eq key e.0.items) (known_of-lookup key es) where
+  go : (t : Bool) → known_of key (map as_named es) ≡ option_map known (lookup (has key) es) →
+      cond t (Some (known e.1)) (known_of key (map as_named es)) ≡ option_map known (cond t (Some e.1) (lookup (has key) es))
+  go true later = refl
+  go false later = later
 
 pub put-insert : (key : Key) (entry : Entry) (es : List (Key × Entry)) →
     map as_named (insert_entry (λ a b. bytes_eq a.items b.items) es key entry) ≡ put key.items (known entry) (map as_named es)
 put-insert key entry [] = refl
-put-insert key entry (e ∷ es) = go (bytes_eq key.items e.0.items) (put-insert key entry es)
-  where
-    go : (t : Bool) → map as_named (insert_entry (λ a b. bytes_eq a.items b.items) es key entry) ≡ put key.items (known entry)
-        (map as_named es) → map as_named (cond t ((e.0, entry) ∷ es) (e ∷ insert_entry (λ a b. bytes_eq a.items b.items) es key entry)) ≡
-        cond t (as_named (e.0, entry) ∷ map as_named es) (as_named e ∷ put key.items (known entry) (map as_named es))
-    go true later = refl
-    go false later = ap (λ labels. as_named e ∷ labels) later
+put-insert key entry (e ∷ es) = go (bytes_eq key.items e.0.items) (put-insert key entry es) where
+  go : (t : Bool) → map as_named (insert_entry (λ a b. bytes_eq a.items b.items) es key entry) ≡ put key.items (known entry)
+      (map as_named es) → map as_named (cond t ((e.0, entry) ∷ es) (e ∷ insert_entry (λ a b. bytes_eq a.items b.items) es key entry)) ≡
+      cond t (as_named (e.0, entry) ∷ map as_named es) (as_named e ∷ put key.items (known entry) (map as_named es))
+  go true later = refl
+  go false later = ap (λ labels. as_named e ∷ labels) later
 
 pub known_at-get : (n : ℕ) (es : List (Key × Entry)) → known_at n (map as_named es) ≡ option_map (λ e. known e.1) (slice_get es n)
 known_at-get n [] = refl

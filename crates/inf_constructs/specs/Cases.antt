@@ -20,19 +20,14 @@ unfoldable pub group_tested : Limits → List Simple → Bool → Label → Code
 group_tested limits [] sense label = nothing
 group_tested limits (a ∷ others) sense label = instruction limits Opcode.Je (Simple.Variable SWITCHED ∷ a ∷ others) None (to sense label)
 
--- A range: the last value of a case branches to the next case where it fails, and another value to the body of the case
--- where it holds.
+-- A range: the last value of a case branches to the next case where it fails, and another value to the body of the case where it holds.
 abbrev pub beside : Limits → Simple → Simple → Label → Code
-beside limits a b next =
-    instruction limits Opcode.Jl (Simple.Variable SWITCHED ∷ a ∷ []) None (to true next)
+beside limits a b next = instruction limits Opcode.Jl (Simple.Variable SWITCHED ∷ a ∷ []) None (to true next)
     ▸ instruction limits Opcode.Jg (Simple.Variable SWITCHED ∷ b ∷ []) None (to true next)
 
 abbrev pub within : Limits → Simple → Simple → Label → Code
-within limits a b here =
-    with_label (λ beyond.
-    instruction limits Opcode.Jl (Simple.Variable SWITCHED ∷ a ∷ []) None (to true beyond)
-    ▸ instruction limits Opcode.Jg (Simple.Variable SWITCHED ∷ b ∷ []) None (to false here)
-    ▸ marked limits beyond)
+within limits a b here = with_label (λ beyond. instruction limits Opcode.Jl (Simple.Variable SWITCHED ∷ a ∷ []) None (to true beyond)
+    ▸ instruction limits Opcode.Jg (Simple.Variable SWITCHED ∷ b ∷ []) None (to false here) ▸ marked limits beyond)
 
 unfoldable pub range_tested : Limits → Bool → Simple → Simple → Label → Label → Code
 range_tested limits is_last a b here next = if is_last then beside limits a b next else within limits a b here

@@ -17,8 +17,7 @@ Laying A = Out → A × Out
 abbrev pub giving : {A : Type 0} → A → Code → Laying A
 giving a code o = (a, code o)
 
--- The beginning of a statement, where its word was read: its labels are handed out, and some mark the first of their
--- places.
+-- The beginning of a statement, where its word was read: its labels are handed out, and some mark the first of their places.
 abbrev pub with_labels : Kind → Laying Construct
 with_labels k o =
     let next = behind o.next in
@@ -57,8 +56,7 @@ joint limits c _ = nothing
 unfoldable pub between : Limits → Construct → Laying Construct
 between limits c o = giving (record c { kind = kind_behind c.kind }) (joint limits c c.kind) o
 
--- A loop over the children of an object, or over all objects but the first four, where objects that fail a test are passed
--- over.
+-- A loop over the children of an object, or over all objects but the first four, where objects that fail a test are passed over.
 abbrev pub over_children : Limits → Tree → ℕ → Construct → Code
 over_children limits e v c = worked limits Opcode.GetChild (part (meaning limits e) ∷ []) (Some v) (to false c.end) ▸ marked limits c.top
 

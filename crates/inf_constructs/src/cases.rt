@@ -29,7 +29,6 @@ fn to(sense: bool, label: Label) -> Option<Branch>
     })
 }
 
-/// Returns the operand of the tree at `place`.
 fn operand_in<B: Bounds>(nodes: &Nodes, place: usize) -> Simple
     ensures { result ≡ operand_in B.most (tree_at nodes.now place) }
 {
@@ -107,8 +106,7 @@ fn lay_range<B: Bounds>(
     }
 }
 
-/// Lays the tests that end at the tree at `place`, behind the open group `group`: this group, where it takes no more, and a
-/// range.
+/// Lays the tests that end at the tree at `place`, behind the open group `group`: this group, where it takes no more, and a range.
 #[tactic(auto, unfolding(crate::specs::Cases::value_laid))]
 fn lay_value_of<B: Bounds>(
     nodes: &Nodes,

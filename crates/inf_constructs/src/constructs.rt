@@ -310,8 +310,7 @@ impl Constructs {
         Ok(())
     }
 
-    /// Goes on behind `else`, `until` or the first `:` of the innermost statement, or where the body of a loop over objects
-    /// begins.
+    /// Goes on behind `else`, `until` or the first `:` of the innermost statement, or where the body of a loop over objects begins.
     #[tactic(auto, unfolding(crate::specs::Constructs::between))]
     #[inline(never)]
     pub fn go_on<B: Bounds>(&mut self, out: &mut Output<B>) -> Result<(), AllocError>

@@ -173,7 +173,6 @@ impl Labels {
         self.entries.len()
     }
 
-    /// Returns the name at `place` among the labels, as it is first spelled, if its place is not given.
     fn missing_at(&self, place: usize) -> Option<&[u8]>
         ensures { option_map (λ name. name.now) result ≡ missing_at (known_at place self.now) }
     {

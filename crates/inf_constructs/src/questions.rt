@@ -6,7 +6,6 @@ ghost use Rattle.inf_constructs.specs.Constructs.{next_case_in, otherwise};
 use crate::constructs::{Case, Construct, Kind};
 use inf_opcode::Label;
 
-/// Returns the label to which a branch goes where the condition is not true.
 pub(crate) fn otherwise(construct: &Construct) -> Label
     ensures { result ≡ otherwise construct.now construct.now.kind }
 {
@@ -60,7 +59,6 @@ pub(crate) fn is_late_in(kind: Kind) -> bool
     }
 }
 
-/// Returns the label behind the open case of a statement, if that is a case of values.
 pub(crate) fn next_case_in(kind: Kind) -> Option<Label>
     ensures { result ≡ next_case_in kind }
 {

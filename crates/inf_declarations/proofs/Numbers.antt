@@ -1,14 +1,12 @@
 -- An entry that is a number by itself: no name is looked up or used, nothing is wrong with the expression, and its value is the number.
-use Rattle.std.proofs.Common.{◌≡◌, ◌==◌, ◌⊎◌, inl, inr, ℕ, Bool, true, false, List, [], ◌∷◌, Option, Some, None, IfSome, refl, sym, ap, subst}
-use Rattle.std.proofs.Common.{◌∙◌}
+use Rattle.std.proofs.Common.{◌≡◌, ◌⊎◌, inl, inr, ℕ, Bool, true, false, List, [], ◌∷◌, Option, Some, None, IfSome, refl, sym, ap, subst}
 use Rattle.std.proofs.lemmas.Bool.{eqb-true}
 use Rattle.inf_settings.specs.Bounds.{Limits}
 use Rattle.inf_area.specs.declared.targets.Value.{Value}
 use Rattle.inf_expressions.specs.{Findings.least_of_both, declared.findings.Finding.Finding, declared.symbols.Symbol.Symbol}
 use Rattle.inf_gathering.specs.declared.gathering.Leaf.{Leaf}
-use Rattle.inf_scanner.specs.declared.tokens.Place.{Place}
 use Rattle.inf_compilation.specs.{Actions.Compilation, Context.Context}
-use Rattle.inf_declarations.specs.Arrays.{IsNumber, added, added_finding, adding, entry_added, entry_finding, entry_judged, entry_with, is_first}
+use Rattle.inf_declarations.specs.Arrays.{IsNumber, added, added_finding, adding, entry_added, entry_finding, is_first}
 use Rattle.inf_declarations.specs.Arrays.{is_first_leaf, number_in, number_leaf, one_more}
 
 -- the compilation where the unit's expression has these symbols and leaves
@@ -87,10 +85,8 @@ comes : (limits : Limits) (context : Context) (alone : Bool) (number : ℕ) (w :
     → Comes limits context alone number w
 comes limits context alone number w is =
     let symbols = are_first w.unit.gathering.symbols is.alone in
-    let at : (leaves : List Leaf)
-    → Comes limits context alone number (with_parts (Symbol.Leaf symbols.first symbols.token 0 ∷ []) leaves w)
-    → w.unit.gathering.leaves ≡ leaves → Comes limits context alone number w =
-    λ leaves one e.
+    let at : (leaves : List Leaf) → Comes limits context alone number (with_parts (Symbol.Leaf symbols.first symbols.token 0 ∷ []) leaves w)
+    → w.unit.gathering.leaves ≡ leaves → Comes limits context alone number w = λ leaves one e.
     subst (λ (ls : List Leaf). Comes limits context alone number (with_parts w.unit.gathering.symbols ls w)) (sym e)
     (subst (λ (ss : List Symbol). Comes limits context alone number (with_parts ss leaves w)) (sym symbols.are) one) in
     elim (numbers_at w.unit.gathering.leaves number is.leaf) [

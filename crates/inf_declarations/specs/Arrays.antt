@@ -1,5 +1,5 @@
 -- The directive `Array`: its header, and its entries one by one. Designer's Manual, fourth edition, section 2.4.
-use Rattle.std.specs.Prelude.{◌≡◌, ℕ, ◌+◌, ◌==◌, List, [], ◌∷◌, length, map, codes, Bool, true, false, not, ◌&&◌, ◌||◌, if◌then◌else◌, Option}
+use Rattle.std.specs.Prelude.{◌≡◌, ℕ, ◌+◌, ◌==◌, List, [], ◌∷◌, length, map, codes, Bool, true, false, not, ◌&&◌, if◌then◌else◌, Option}
 use Rattle.std.specs.Prelude.{Some, None}
 use Rattle.std.specs.Str.{str_eq_ignore_ascii_case}
 use Rattle.inf_settings.specs.{Bounds.Limits, Bounds.unbounded, declared.setting.Setting.Setting}
@@ -44,8 +44,7 @@ with_arrays arrays o = record o { tables = record o.tables { arrays = arrays } }
 abbrev pub array_declared : Limits → Name → ℕ → Code
 array_declared limits name place o = name_declared limits name (Meaning.Array place) o
 
--- An array that would pass the limit is not opened, and has its name all the same: that may pass a limit before that of
--- arrays.
+-- An array that would pass the limit is not opened, and has its name all the same: that may pass a limit before that of arrays.
 abbrev pub array_refused : Limits → Name → Code
 array_refused limits name o = array_declared limits name 0 (passed_table limits Setting.Arrays o)
 
@@ -84,8 +83,7 @@ array_named limits context first (name ∷ names) w = array_header limits contex
 
 -- Definitions of entries
 
--- The first entry is alone where it is the last one, too: as a number it asks for that many zeros, and as a text for its
--- characters.
+-- The first entry is alone where it is the last one, too: as a number it asks for that many zeros, and as a text for its characters.
 abbrev pub is_alone : Bool → Compilation → Bool
 is_alone is_last w = is_last && not w.listing.has_entries
 

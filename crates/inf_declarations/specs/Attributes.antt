@@ -29,8 +29,7 @@ attribute_added limits (Some f) name o = name_declared limits name (Meaning.Attr
 attribute_added limits None name o = new_attribute (name_declared limits name (Meaning.Attribute (attribute_number o)) o)
 
 abbrev pub attribute_ended : Limits → Context → Place → Name → Declared → Compilation → Compilation
-attribute_ended limits context first name d w =
-    declaration_ended limits context first name FixedLimit.Attributes d
+attribute_ended limits context first name d w = declaration_ended limits context first name FixedLimit.Attributes d
     (record w { output = attribute_added limits d.finding name w.output })
 
 abbrev pub has_most_attributes : Out → Bool

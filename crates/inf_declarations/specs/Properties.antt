@@ -29,15 +29,13 @@ abbrev pub property_added : Limits → Context → Option Finding → Name → B
 property_added limits context (Some f) name is_additive w = name_declared limits name (nothing_of FixedLimit.Properties) w.output
 property_added limits context None name is_additive w =
     let o = (settled_of limits context w).out in
-    new_property is_additive (value_of limits context w)
-    (name_declared limits name (Meaning.Property (property_number o) is_additive) o)
+    new_property is_additive (value_of limits context w) (name_declared limits name (Meaning.Property (property_number o) is_additive) o)
 
 abbrev pub property_order : List SourceToken → Bool → ℕ
 property_order tokens is_additive = if is_additive then min (name_order tokens + 1) 4294967295 else name_order tokens
 
 abbrev pub property_ended : Limits → Context → Place → Bool → Name → Declared → Compilation → Compilation
-property_ended limits context first is_additive name d w =
-    declaration_ended limits context first name FixedLimit.Properties d
+property_ended limits context first is_additive name d w = declaration_ended limits context first name FixedLimit.Properties d
     (record w { output = property_added limits context d.finding name is_additive w })
 
 abbrev pub has_most_properties : Out → Bool

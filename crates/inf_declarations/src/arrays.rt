@@ -61,8 +61,7 @@ fn kind_in(tokens: &UnitTokens) -> ArrayKind
     array_kind(tokens.kind(at), tokens.bytes_at(at))
 }
 
-/// Returns the finding about an entry that its array refuses. It is no error of the unit that there are too many
-/// bytes.
+/// Returns the finding about an entry that its array refuses. It is no error of the unit that there are too many bytes.
 pub fn refused(fault: Option<ArrayFault>) -> Option<Finding>
     ensures { result ≡ refused fault }
 {
@@ -105,8 +104,7 @@ fn adding(is_alone: bool, value: Value) -> Entries<'static>
     }
 }
 
-/// Returns the place of the text that an expression with these leaves is by itself, or `None` where it is more than a
-/// text.
+/// Returns the place of the text that an expression with these leaves is by itself, or `None` where it is more than a text.
 fn bare_leaf(leaves: &[Leaf]) -> Option<usize>
     ensures { result ≡ bare_leaf leaves.now }
 {
@@ -506,8 +504,6 @@ fn judge_several<B: Bounds>(
     end_several(compilation, context, first, is_alone, found, known)
 }
 
-/// Returns the number that an expression with these leaves is by itself, where it is the first of them; `None` where it is more than a
-/// number or a character.
 fn number_leaf(leaves: &[Leaf]) -> Option<u16>
     ensures { result ≡ number_leaf leaves.now }
 {

@@ -74,8 +74,7 @@ fn one_attribute<B: Bounds>(
     end_attribute(compilation, context, first, name, declared)
 }
 
-/// Ends the declaration of `name` as an attribute, which begins at `first`; `declared` is the declaration as far as it
-/// is known.
+/// Ends the declaration of `name` as an attribute, which begins at `first`; `declared` is the declaration as far as it is known.
 fn end_attribute<B: Bounds>(
     compilation: &mut Compilation<B>,
     context: &Context<'_>,

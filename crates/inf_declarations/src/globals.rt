@@ -62,8 +62,7 @@ fn one_global<B: Bounds>(
     end_global(compilation, context, first, name, declared)
 }
 
-/// Ends the declaration of `name` as a global variable, which begins at `first`; `declared` is the declaration as far
-/// as it is known.
+/// Ends the declaration of `name` as a global variable, which begins at `first`; `declared` is the declaration as far as it is known.
 fn end_global<B: Bounds>(
     compilation: &mut Compilation<B>,
     context: &Context<'_>,
@@ -92,8 +91,7 @@ fn add_global<B: Bounds>(
     name: &Name,
     found: Option<Finding>,
 ) -> Result<(), AllocError>
-    ensures { let before = work compilation.old in
-        OnOk result (work compilation.new ≡ record before
+    ensures { let before = work compilation.old in OnOk result (work compilation.new ≡ record before
         { output = global_added B.most (handed context.now) found (as_name name.now) before }) }
 {
     if found.is_some() {

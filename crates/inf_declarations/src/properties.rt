@@ -176,8 +176,7 @@ fn add_property<B: Bounds>(
     is_additive: bool,
     found: Option<Finding>,
 ) -> Result<(), AllocError>
-    ensures { let before = work compilation.old in
-        OnOk result (work compilation.new ≡ record before
+    ensures { let before = work compilation.old in OnOk result (work compilation.new ≡ record before
         { output = property_added B.most (handed context.now) found (as_name name.now) is_additive before }) }
 {
     if found.is_some() {

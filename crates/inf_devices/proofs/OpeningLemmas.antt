@@ -21,8 +21,7 @@ listed_is_found : (entries : List (String Global × Vec ℕ Global)) (name : Lis
     → sources_of (map (λ e. (string_bytes e.0, e.1.items)) entries) name
     ≡ option_map (λ v. v.items) (lookup (λ key. is_eq (slice_cmp nat_cmp name (string_bytes key))) entries)
 listed_is_found [] name = refl
-listed_is_found (e ∷ entries) name =
-    at_first (is_eq (slice_cmp nat_cmp name (string_bytes e.0))) e.1 _ _ (listed_is_found entries name)
+listed_is_found (e ∷ entries) name = at_first (is_eq (slice_cmp nat_cmp name (string_bytes e.0))) e.1 _ _ (listed_is_found entries name)
 
 -- a source is found in the list of the entries as in the map
 pub sources_of-kept_in : (sources : BTreeMap (String Global) (Vec ℕ Global)) (name : List ℕ)
@@ -79,10 +78,8 @@ AreOpenings-opened sources opened places o are is = record {
 }
 
 -- A new record is read as an opening without a byte.
-pub openings_of-opened : (sources : Sources) (opens : List Opened) (places : List ℕ) (o : Opened)
-    → o.given ≡ 0 → o.is_read_out ≡ false
-    → openings_of sources (opens ++ o ∷ []) (places ++ length opens ∷ [])
-    ≡ record {
+pub openings_of-opened : (sources : Sources) (opens : List Opened) (places : List ℕ) (o : Opened) → o.given ≡ 0 → o.is_read_out ≡ false
+    → openings_of sources (opens ++ o ∷ []) (places ++ length opens ∷ []) ≡ record {
       all = map (opening_of sources) opens ++ opened (string_bytes o.name) ∷ [];
       open_places = places ++ length (map (opening_of sources) opens) ∷ [];
     }
@@ -91,8 +88,7 @@ openings_of-opened sources opens places o none unread =
 
 -- A record is still one after `count` more of the bytes that are left of its source.
 pub IsOpening-given : (sources : Sources) (o : Opened) (count : ℕ) → IsOpening sources o
-    → count ≤ length (drop o.given (unwrap_or (sources (string_bytes o.name)) []))
-    → IsOpening sources (given_more o count)
+    → count ≤ length (drop o.given (unwrap_or (sources (string_bytes o.name)) [])) → IsOpening sources (given_more o count)
 IsOpening-given sources o count is left = record {
   whole = is.whole;
   is_source = is.is_source;
@@ -109,11 +105,10 @@ AreOpenings-given sources opened places place o are is = record {
 -- A source is absent where the test for its name says no.
 pub source_absent : (sources : BTreeMap (String Global) (Vec ℕ Global)) (name : List ℕ)
     → is_some (get_by_text sources name) ≡ false → sources_of (kept_in sources) name ≡ None
-source_absent sources name lacks = source_missed sources name (none_then (get_by_text sources name) lacks)
-  where
-    none_then : (o : Option (Vec ℕ Global)) → is_some o ≡ false → o ≡ None
-    none_then None lacks = refl
-    none_then (Some v) lacks = cc
+source_absent sources name lacks = source_missed sources name (none_then (get_by_text sources name) lacks) where
+  none_then : (o : Option (Vec ℕ Global)) → is_some o ≡ false → o ≡ None
+  none_then None lacks = refl
+  none_then (Some v) lacks = cc
 
 pub source_present : (sources : BTreeMap (String Global) (Vec ℕ Global)) (name : List ℕ)
     → is_some (get_by_text sources name) ≡ true → (whole : List ℕ) × (sources_of (kept_in sources) name ≡ Some whole)
@@ -173,8 +168,7 @@ is_opening sources opens places are place o within at = rw at (are.each place o 
 -- a read of the innermost source
 pub gives_innermost : (sources : Sources) (opens : List Opened) (places : List ℕ) (place : ℕ) (o : Opened) (count : ℕ) (bytes : List ℕ)
     → 0 < length places → place ≡ get_or places (length places - 1) 0 → place < length opens → o ≡ get_or opens place o → IsOpening sources
-    o
-    → count ≤ length (left_of sources o) → (count ≡ 0 → length (left_of sources o) ≡ 0) → bytes ≡ take count (left_of sources o)
+    o → count ≤ length (left_of sources o) → (count ≡ 0 → length (left_of sources o) ≡ 0) → bytes ≡ take count (left_of sources o)
     → GivesInnermost sources (openings_of sources opens places) (openings_of sources (slice_set opens place (given_more o count)) places)
     bytes
 gives_innermost sources opens places place o count bytes some last within at is enough end_only are_bytes = record {
@@ -182,16 +176,14 @@ gives_innermost sources opens places place o count bytes some last within at is 
   place = place;
   before = opening_of sources o;
   innermost = up_to_last places place some last;
-  was_opened =
-      slice_get-map (opening_of sources) opens place
+  was_opened = slice_get-map (opening_of sources) opens place
       ∙ ap (option_map (opening_of sources)) (slice_get-get_or opens place o within ∙ ap Some (sym at));
   gives = gives_next sources o count bytes is enough end_only are_bytes;
   after = rw (are_bytes, ← opening_of-given sources o count enough, map-set (opening_of sources) opens place (given_more o count));
-}
-  where
-    up_to_last : (places : List ℕ) (place : ℕ) → 0 < length places → place ≡ get_or places (length places - 1) 0
-        → places ≡ take (length places - 1) places ++ place ∷ []
-    up_to_last places place some last =
-        let before : length places - 1 < length places = omega arith in
-        let whole : suc (length places - 1) ≡ length places = omega arith in
-        sym (take-length places) ∙ ap (λ n. take n places) (sym whole) ∙ take-suc places (length places - 1) 0 before ∙ rw last
+} where
+  up_to_last : (places : List ℕ) (place : ℕ) → 0 < length places → place ≡ get_or places (length places - 1) 0
+      → places ≡ take (length places - 1) places ++ place ∷ []
+  up_to_last places place some last =
+      let before : length places - 1 < length places = omega arith in
+      let whole : suc (length places - 1) ≡ length places = omega arith in
+      sym (take-length places) ∙ ap (λ n. take n places) (sym whole) ∙ take-suc places (length places - 1) 0 before ∙ rw last

@@ -106,8 +106,7 @@ pub record GivesNext (sources : Sources) (before : Opening) (bytes : List ℕ) :
 -- the opening after these bytes: no bytes are the end
 abbrev pub after_bytes : Opening → List ℕ → Opening
 after_bytes before [] = record { name = before.name; given = before.given; is_read_out = true }
-after_bytes before (b ∷ bytes) =
-    record { name = before.name; given = before.given ++ (b ∷ bytes); is_read_out = before.is_read_out }
+after_bytes before (b ∷ bytes) = record { name = before.name; given = before.given ++ (b ∷ bytes); is_read_out = before.is_read_out }
 
 -- The innermost source gave these bytes, and nothing else changed.
 pub record GivesInnermost (sources : Sources) (old new : Openings) (bytes : List ℕ) : Type 0 where

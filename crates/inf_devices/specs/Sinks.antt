@@ -7,8 +7,7 @@ abbrev pub Takes : Option (List ℕ) → Option (List ℕ) → List ℕ → Type
 Takes None new bytes = new ≡ None
 Takes (Some old) new bytes = new ≡ Some (old ++ bytes)
 
--- the bytes that were taken after a write, by its answer: the count is of those that were taken of `bytes`, from the
--- front
+-- the bytes that were taken after a write, by its answer: the count is of those that were taken of `bytes`, from the front
 abbrev pub Writes : Option (List ℕ) → Option (List ℕ) → List ℕ → Result ℕ SinkFault → Type 0
 Writes old new bytes (Ok n) = Takes old new (take n bytes)
 Writes old new bytes (Err _) = new ≡ old

@@ -42,9 +42,8 @@ pub enum ReadFault {
 
 /// A device with named sources of bytes, of which several may be open, one inside the other.
 ///
-/// While it is honest, its sources are a fixed map from names to bytes, each opening reads its
-/// source from the front to the end, and only a name outside the map is called absent. A device
-/// that claims none of this is not honest, and stays that way.
+/// While it is honest, its sources are a fixed map from names to bytes, each opening reads its source from the front to the end, and only a
+/// name outside the map is called absent. A device that claims none of this is not honest, and stays that way.
 pub trait Files {
     /// The number of the device's failures: 64 bits, and it stays at the last value.
     ghost faults: { Self → ℕ };
@@ -69,8 +68,7 @@ pub trait Files {
 
     /// Opens the source with this name, which is then the innermost.
     fn open(&mut self, name: &str) -> Result<(), OpenFault>
-        ensures opens { IsTrue (is_honest self.old) →
-            Opens (sources self.old) name.now (openings self.old) (openings self.new) result }
+        ensures opens { IsTrue (is_honest self.old) → Opens (sources self.old) name.now (openings self.old) (openings self.new) result }
         ensures depth { depth self.new ≡ (if is_ok result then depth self.old + 1 else depth self.old) }
         ensures opened { opened self.new ≡ (if is_ok result then with_name name.now (opened self.old) else opened self.old) }
         ensures cause { IsErrOf result OpenFault.Device → Rose (faults self.old) (faults self.new) }
@@ -78,13 +76,11 @@ pub trait Files {
         ensures counts { counts self.new ≡ (if is_ok result then counts_opened (counts self.old) else counts self.old) }
         ensures kept { (sources self.new ≡ sources self.old) × (is_honest self.new ≡ is_honest self.old) };
 
-    /// Reads the next bytes of the innermost source into the front of `to`, and returns their
-    /// number: none at the source's end.
+    /// Reads the next bytes of the innermost source into the front of `to`, and returns their number: none at the source's end.
     fn read(&mut self, to: &mut [u8]) -> Result<usize, ReadFault>
         requires is_open { 0 < depth self.old }
         requires room { 0 < length to.old }
-        ensures reads { IsTrue (is_honest self.old) →
-            Reads (sources self.old) (openings self.old) (openings self.new) to.new result }
+        ensures reads { IsTrue (is_honest self.old) → Reads (sources self.old) (openings self.old) (openings self.new) to.new result }
         ensures count { IfOk result (λ n. n ≤ length to.new) }
         ensures counts { counts self.new ≡ counts_read result (counts self.old) }
         ensures depth { depth self.new ≡ depth self.old }

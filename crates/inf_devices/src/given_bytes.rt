@@ -7,7 +7,6 @@ use std::marker::Model;
 /// The most bytes that a source may have.
 const MOST_SOURCE_BYTES: u64 = 16_777_216;
 
-/// Returns whether a source of which `count` bytes were given has more than it may have.
 fn is_too_long(count: u64) -> bool
     ensures { result ≡ is_too_long count }
 {

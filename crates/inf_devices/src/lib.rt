@@ -1,5 +1,4 @@
-//! The files of sources: the interface of a reader of named sources, and a reader over memory.
-//! The devices that take bytes.
+//! The files of sources: the interface of a reader of named sources, and a reader over memory. The devices that take bytes.
 #![tactic(auto)]
 
 pub mod failures;

@@ -73,8 +73,7 @@ impl MemoryFiles {
 
     /// Makes files of these sources, by their names, of which none was opened yet.
     pub fn new(alloc: Global, sources: BTreeMap<String, Vec<u8>>) -> MemoryFiles
-        ensures sources { (name : List ℕ) →
-            sources_of result.kept name ≡ option_map (λ v. v.items) (get_by_text sources name) }
+        ensures sources { (name : List ℕ) → sources_of result.kept name ≡ option_map (λ v. v.items) (get_by_text sources name) }
         ensures openings { result.openings ≡ record { all = []; open_places = [] } }
         ensures counts { result.counts ≡ nothing_given }
     {
@@ -88,16 +87,14 @@ impl MemoryFiles {
     }
 }
 
-/// Puts a source that was opened just now behind the others, as the innermost. Where memory runs out, all stays as it
-/// was.
+/// Puts a source that was opened just now behind the others, as the innermost. Where memory runs out, all stays as it was.
 fn add_opened(
     opened: &mut Vec<Opened>,
     open_places: &mut Vec<usize>,
     given: &mut GivenBytes,
     name: String,
 ) -> Result<(), AllocError>
-    ensures opened { OnOk result (opened.new.items
-        ≡ opened.old.items ++ record { name = name; given = 0; is_read_out = false } ∷ []) }
+    ensures opened { OnOk result (opened.new.items ≡ opened.old.items ++ record { name = name; given = 0; is_read_out = false } ∷ []) }
     ensures open_places { OnOk result (open_places.new.items ≡ open_places.old.items ++ length opened.old.items ∷ []) }
     ensures given { OnOk result (given.new ≡ counts_opened given.old) }
     ensures err { OnErr result ((opened.new.items ≡ opened.old.items) × ((open_places.new.items ≡ open_places.old.items)

@@ -13,8 +13,7 @@ pub trait Sink {
     /// The bytes that the sink took, where it states them.
     ghost taken: { Self → Option (List ℕ) };
 
-    /// The number of writes that failed, or took none of the bytes offered: 64 bits, and it stays
-    /// at the last value.
+    /// The number of writes that failed, or took none of the bytes offered: 64 bits, and it stays at the last value.
     ghost failures: { Self → ℕ };
 
     /// Takes bytes from the front of `bytes`, and returns their number.
@@ -28,8 +27,7 @@ pub trait Sink {
         ensures failures { failures self.old ≤ failures self.new };
 }
 
-/// Writes all of `bytes`, in as many writes as the sink wants: each goes on behind the bytes that
-/// the earlier ones took.
+/// Writes all of `bytes`, in as many writes as the sink wants: each goes on behind the bytes that the earlier ones took.
 ///
 /// The only error is the number of bytes that were taken before a write failed or took none.
 pub fn write_whole<S: Sink>(sink: &mut S, bytes: &[u8]) -> Result<(), usize>

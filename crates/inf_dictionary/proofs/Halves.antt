@@ -20,17 +20,14 @@ itself Greater e = absurd (cc e)
 
 -- the result of a step, by how the text compares to the one half way
 step_is : (steps : ℕ) (bytes : List ℕ) (text half : Text) (first end : ℕ) (o : Ordering) → first < end →
-    text_written bytes (half_way first end) ≡ half
-    → order text half ≡ o → found_by_halves (suc steps) bytes text first end
+    text_written bytes (half_way first end) ≡ half → order text half ≡ o → found_by_halves (suc steps) bytes text first end
     ≡ match_ordering o (found_by_halves steps bytes text first (half_way first end)) (Some (half_way first end))
     (found_by_halves steps bytes text (half_way first end + 1) end)
 step_is steps bytes text half first end o some stands compares =
     let low = found_by_halves steps bytes text first (half_way first end) in
-    let high = found_by_halves steps bytes text (half_way first end + 1) end in
-    let here = Some (half_way first end) in
+    let high = found_by_halves steps bytes text (half_way first end + 1) end in let here = Some (half_way first end) in
     ap (λ (b : Bool). if b then None else match_ordering (order text (text_written bytes (half_way first end))) low here high)
-    (lt-leb end first some)
-    ∙ ap (λ t. match_ordering (order text t) low here high) stands
+    (lt-leb end first some) ∙ ap (λ t. match_ordering (order text t) low here high) stands
     ∙ ap (λ r. match_ordering r low here high) compares
 
 pub found_where_it_stands : IsTotalOrder order → (bytes : List ℕ) (texts : List Text) (place : ℕ) → AreRising texts
@@ -39,10 +36,8 @@ pub found_where_it_stands : IsTotalOrder order → (bytes : List ℕ) (texts : L
     → found_by_halves steps bytes (slice_index_or texts place []) first end ≡ Some place
 found_where_it_stands total bytes texts place rising are zero first end low up most few = absurd (omega (arith, low, up, few))
 found_where_it_stands total bytes texts place rising are (suc steps) first end low up most few =
-    let middle = half_way first end in
-    let text = slice_index_or texts place [] in
-    let some : first < end = omega (arith, low, up) in
-    let below : middle < end = half_below first end some in
+    let middle = half_way first end in let text = slice_index_or texts place [] in
+    let some : first < end = omega (arith, low, up) in let below : middle < end = half_below first end some in
     let there : middle < length texts = omega (arith, below, most) in
     elim (cases_lt place middle) [
       | inl lower ↦
@@ -60,18 +55,15 @@ found_where_it_stands total bytes texts place rising are (suc steps) first end l
         | inr same ↦
             let is : middle ≡ place = omega (arith, upper, same) in
             step_is steps bytes text text first end Equal some (are middle there ∙ ap (λ k. slice_index_or texts k []) is)
-            (itself (order text text) (total.antisymm text text))
-            ∙ ap Some is
+            (itself (order text text) (total.antisymm text text)) ∙ ap Some is
       ]
     ]
 
 -- no text that is there is the one
 other_in : (text : Text) (e : Text × Word) (words : List (Text × Word)) (k : ℕ) (b : Bool) → k < length (e ∷ words) →
-    is_eq (order text e.0) ≡ b
-    → cond b (Some e.1) (lookup (is_at (order text)) words) ≡ None
+    is_eq (order text e.0) ≡ b → cond b (Some e.1) (lookup (is_at (order text)) words) ≡ None
     → ((n : ℕ) → lookup (is_at (order text)) words ≡ None → n < length words → is_eq (order text (slice_index_or (texts_of words) n [])) ≡
-    false)
-    → is_eq (order text (slice_index_or (texts_of (e ∷ words)) k [])) ≡ false
+    false) → is_eq (order text (slice_index_or (texts_of (e ∷ words)) k [])) ≡ false
 other_in text e words k true h is none rest = absurd (cc none)
 other_in text e words zero false h is none rest = is
 other_in text e words (suc k) false h is none rest = rest k none (omega (arith, h))
@@ -94,15 +86,13 @@ pub none_found : (bytes : List ℕ) (text : Text) (texts : List Text)
     → (steps first end : ℕ) → end ≤ length texts → found_by_halves steps bytes text first end ≡ None
 none_found bytes text texts are others zero first end most = refl
 none_found bytes text texts are others (suc steps) first end most =
-    let middle = half_way first end in
-    let low = found_by_halves steps bytes text first middle in
+    let middle = half_way first end in let low = found_by_halves steps bytes text first middle in
     let high = found_by_halves steps bytes text (middle + 1) end in
     elim (cases_lt first end) [
       | inl some ↦
           let there : middle < length texts = omega (arith, half_below first end some, most) in
           step_is steps bytes text (slice_index_or texts middle []) first end (order text (slice_index_or texts middle [])) some
-          (are middle there) refl
-          ∙ on_both (order text (slice_index_or texts middle [])) low (Some middle) high (others middle there)
+          (are middle there) refl ∙ on_both (order text (slice_index_or texts middle [])) low (Some middle) high (others middle there)
           (none_found bytes text texts are others steps first middle (omega (arith, there)))
           (none_found bytes text texts are others steps (middle + 1) end most)
       | inr none ↦

@@ -67,8 +67,7 @@ rank_at total text texts i rising within is = sym (rank_is text texts i (omega (
     | inl up ↦ ap is_lt (total.antisymm (slice_index_or texts k d) text
         ∙ ap ordering_reverse (subst (λ y. order y (slice_index_or texts k d) ≡ Less) (is d) (later_is_above texts rising i k d up to)))
     | inr down ↦
-        let same : k ≡ i = omega arith in
-        rw same (rw (is d) (not_below (order text text) (total.antisymm text text)))
+        let same : k ≡ i = omega arith in rw same (rw (is d) (not_below (order text text) (total.antisymm text text)))
   ]
 
 -- whatever stands for one that is not there, one that is there is the same

@@ -36,8 +36,7 @@ text_at (e ∷ words) zero whole within =
 text_at (e ∷ words) (suc place) whole within =
     let there : 9 * suc place ≡ length (entry_bytes e) + 9 * place =
     omega (arith, whole.0, length-append e.0 (e.1.flags ∷ verb_byte e.1 ∷ 0 ∷ [])) in
-    ap (λ i. take 6 (drop i (entries_bytes (e ∷ words)))) there
-    ∙ ap (take 6) (behind (entry_bytes e) (entries_bytes words) (9 * place))
+    ap (λ i. take 6 (drop i (entries_bytes (e ∷ words)))) there ∙ ap (take 6) (behind (entry_bytes e) (entries_bytes words) (9 * place))
     ∙ text_at words place whole.1 (omega (arith, within))
 
 -- the entries stand behind seven bytes

@@ -18,6 +18,5 @@ found_by_halves zero bytes text first end = None
 found_by_halves (suc steps) bytes text first end =
     if nat_le end first then None
     else match_ordering (slice_cmp nat_cmp text (text_written bytes (half_way first end)))
-    (found_by_halves steps bytes text first (half_way first end))
-    (Some (half_way first end))
+    (found_by_halves steps bytes text first (half_way first end)) (Some (half_way first end))
     (found_by_halves steps bytes text (half_way first end + 1) end)

@@ -63,8 +63,7 @@ add_fault limits word how words =
     if is_of_other_verb word how then Some AddFault.OtherVerb
     else if is_none word && nat_le (limits Setting.DictionaryEntries) (length words.list) then Some AddFault.Full else None
 
--- Tells whether a text cannot become a word of a new verb behind the texts of `before`: it is a word of a verb already, or is among
--- these.
+-- Tells whether a text cannot become a word of a new verb behind the texts of `before`: it is a word of a verb already, or is among these.
 unfoldable pub is_misfit : List (Text × Word) → List (Text × Unit {0}) → Text → Bool
 is_misfit words before text = is_some (verb_of text words) || is_some (lookup (is_at (slice_cmp nat_cmp text)) before)
 

@@ -69,8 +69,7 @@ fn add_entry(bytes: &mut Vec<u8>, text: &[u8; 6], word: Word) -> Result<(), Allo
 }
 
 impl<B: Bounds> Dictionary<B> {
-    /// Returns a dictionary without words, which takes `limit` words at most. It takes no memory until the first one
-    /// comes.
+    /// Returns a dictionary without words, which takes `limit` words at most. It takes no memory until the first one comes.
     pub fn new(alloc: Global, limit: usize) -> Dictionary<B>
         requires { limit ≡ B.most Setting.DictionaryEntries }
         ensures { result ≡ record { list = [] } }
@@ -106,9 +105,8 @@ impl<B: Bounds> Dictionary<B> {
 
     /// Adds a use of the word with `text`, and joins the facts that it says to those of other uses.
     ///
-    /// Returns an error, the first that applies: `OtherVerb` where a word of a verb would become one of another, `Full`
-    /// where the word is new and there are as many words as there may be, `Memory` where it is new and no memory is left.
-    /// The words then stay as they were.
+    /// Returns an error, the first that applies: `OtherVerb` where a word of a verb would become one of another, `Full` where the word is
+    /// new and there are as many words as there may be, `Memory` where it is new and no memory is left. The words then stay as they were.
     pub fn add(&mut self, text: [u8; 6], word_use: WordUse, is_plural: bool) -> Result<(), AddFault>
         ensures ok { OnOk result (self.new ≡ with_use text word_use is_plural self.old) }
         ensures err { OnErr result (self.new ≡ self.old) }

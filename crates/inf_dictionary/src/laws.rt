@@ -21,13 +21,11 @@ pub fn texts_rise<B: Bounds>(dictionary: &Dictionary<B>)
     dictionary.is_in_order();
 }
 
-/// Shows that each word has as many words before it as its place says, and its text is found at this place of the
-/// written bytes.
+/// Shows that each word has as many words before it as its place says, and its text is found at this place of the written bytes.
 pub fn word_at_its_place<B: Bounds>(dictionary: &Dictionary<B>, place: usize)
     requires { place < length dictionary.now.list }
     ensures rank { rank_of (slice_index_or (texts_of dictionary.now.list) place []) (texts_of dictionary.now.list) ≡ place }
-    ensures text { text_written (dictionary_bytes dictionary.now.list) place
-        ≡ slice_index_or (texts_of dictionary.now.list) place [] }
+    ensures text { text_written (dictionary_bytes dictionary.now.list) place ≡ slice_index_or (texts_of dictionary.now.list) place [] }
 {
     dictionary.is_in_order();
 }

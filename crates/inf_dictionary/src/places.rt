@@ -21,7 +21,6 @@ impl Model for Places {
     ghost invariant = { λ p. AreRising p.texts.items };
 }
 
-/// Returns whether `text` comes before `other` in a dictionary: its byte is lower where they first differ.
 fn is_below(text: &[u8; 6], other: &[u8; 6]) -> bool
     ensures { result ≡ is_below text.now other.now }
 {

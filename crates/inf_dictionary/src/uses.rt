@@ -62,7 +62,6 @@ pub(crate) fn joined(before: Option<Word>, word_use: WordUse, is_plural: bool) -
     }
 }
 
-/// Returns whether a use would make a word of a verb one of another verb.
 pub(crate) fn is_of_other_verb(before: Option<Word>, word_use: WordUse) -> bool
     ensures { result ≡ is_of_other_verb before word_use }
 {

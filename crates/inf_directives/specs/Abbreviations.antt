@@ -94,8 +94,7 @@ abbreviation_with limits context first (Ok items) w =
 
 -- a text of `Abbreviate` is a unit of its own
 abbrev pub abbreviation : Limits → Context → Place → Compilation → Compilation
-abbreviation limits context place w =
-    abbreviation_with limits context (first_place w.unit.tokens place)
+abbreviation limits context place w = abbreviation_with limits context (first_place w.unit.tokens place)
     (or_error (text_of context.set Mode.Abbreviation (quoted_in w.unit.tokens))) w
 
 -- the word, which is a unit, too
@@ -109,8 +108,7 @@ abbrev pub named_nothing : Limits → Name → Code
 named_nothing limits name o = name_declared limits name (Meaning.Number 0) o
 
 abbrev pub low_named : Limits → Name → List TextItem → Code
-low_named limits name items o =
-    name_declared limits name (Meaning.LowString (low_size o.tables.low_strings))
+low_named limits name items o = name_declared limits name (Meaning.LowString (low_size o.tables.low_strings))
     (with_low_text limits (packed items []) (text_packed o))
 
 abbrev pub low_named_by : Limits → Name → Result (List TextItem) UnitError → Code
@@ -122,8 +120,7 @@ low_string_added limits set (Some f) name tokens o = named_nothing limits name o
 low_string_added limits set None name tokens o = low_named_by limits name (or_error (text_of set Mode.Text (quoted_in tokens))) o
 
 abbrev pub low_string_with : Limits → Context → Place → Name → Declared → Compilation → Compilation
-low_string_with limits context first name d w =
-    declaration_ended limits context first name FixedLimit.Values d
+low_string_with limits context first name d w = declaration_ended limits context first name FixedLimit.Values d
     (record w { output = low_string_added limits context.set d.finding name w.unit.tokens w.output })
 
 abbrev pub low_string : Limits → Context → Place → List Name → Compilation → Compilation

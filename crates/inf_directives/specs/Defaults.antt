@@ -1,5 +1,5 @@
 -- The directive `Default`.
-use Rattle.std.specs.Prelude.{List, true, None, if◌then◌else◌}
+use Rattle.std.specs.Prelude.{List, true, if◌then◌else◌}
 use Rattle.inf_settings.specs.Bounds.{Limits}
 use Rattle.inf_scanner.specs.declared.tokens.Place.{Place}
 use Rattle.inf_names.specs.Spellings.{Name}

@@ -1,5 +1,5 @@
 -- The directives `Release` and `Serial`. Z-Machine Standard 1.1, section 11.1; Designer's Manual, fourth edition, sections 39 and 40.
-use Rattle.std.specs.Prelude.{ℕ, ◌==◌, nat_le, List, [], ◌∷◌, length, map, Bool, true, ◌&&◌, if◌then◌else◌, Option, Some, None, unwrap_or}
+use Rattle.std.specs.Prelude.{ℕ, ◌==◌, nat_le, List, ◌∷◌, length, map, Bool, true, ◌&&◌, if◌then◌else◌, Option, Some, None, unwrap_or}
 use Rattle.std.specs.List.{list_all}
 use Rattle.inf_settings.specs.Bounds.{Limits}
 use Rattle.inf_scanner.specs.declared.tokens.Place.{Place}
@@ -26,11 +26,10 @@ release_finding number found = found
 -- Without an error its actions appear, and the story has this release. The latest holds.
 abbrev pub release_told : Limits → Context → Option ℕ → Option Finding → Compilation → Compilation
 release_told limits context number (Some f) w = w
-release_told limits context number None w =
-    record w {
-      output = leaf_added limits context.set w.unit.tokens w.unit.gathering.leaves w.output;
-      told = record w.told { release = unwrap_or number 0 };
-    }
+release_told limits context number None w = record w {
+  output = leaf_added limits context.set w.unit.tokens w.unit.gathering.leaves w.output;
+  told = record w.told { release = unwrap_or number 0 };
+}
 
 abbrev pub release_ended : Limits → Context → Place → Option ℕ → Option Finding → Compilation → Compilation
 release_ended limits context first number finding w =

@@ -262,8 +262,7 @@ fn add_low_string<B: Bounds>(
     name_text(compilation.alloc, name, text, &mut compilation.output)
 }
 
-/// Ends a `Lowstring`, which begins at `first` and declares `name`; `declared` is the declaration as far as it is
-/// known.
+/// Ends a `Lowstring`, which begins at `first` and declares `name`; `declared` is the declaration as far as it is known.
 fn end_low_string<B: Bounds>(
     compilation: &mut Compilation<B>,
     context: &Context<'_>,

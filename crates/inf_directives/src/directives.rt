@@ -74,8 +74,7 @@ pub fn stub<B: Bounds>(
     first: Place,
     names: &[Name],
 ) -> Result<(), AllocError>
-    ensures { OnOk result (work compilation.new
-        ≡ stub B.most (handed context.now) first (map as_name names.now) (work compilation.old)) }
+    ensures { OnOk result (work compilation.new ≡ stub B.most (handed context.now) first (map as_name names.now) (work compilation.old)) }
 {
     if is_first_declared(compilation, names) {
         compilation.end_unit(context, first, true, &Findings::none())
@@ -102,8 +101,7 @@ fn new_stub<B: Bounds>(
     stub_routine(compilation, context, first)
 }
 
-/// Makes the routine of a `Stub`, whose name is declared, and ends the directive. It is an error that there are too
-/// many locals.
+/// Makes the routine of a `Stub`, whose name is declared, and ends the directive. It is an error that there are too many locals.
 fn stub_routine<B: Bounds>(
     compilation: &mut Compilation<B>,
     context: &Context<'_>,
@@ -192,8 +190,7 @@ pub fn message<B: Bounds>(
 ) -> Result<(), AllocError>
     ensures { let before = work compilation.old in OnOk result (work compilation.new ≡ record before {
       report = with_words (location (handed context.now).names first) (weight_of (map as_name names.now))
-          (words_of (handed context.now).set before.unit)
-          before.report;
+          (words_of (handed context.now).set before.unit) before.report;
     }) }
 {
     let words = OwnWords {
@@ -219,8 +216,7 @@ fn constant_of<B: Bounds>(compilation: &Compilation<B>, forest: &Forest) -> Opti
     }
 }
 
-/// Returns the meaning of a constant whose expression is one leaf: a text is the next string, and a word of the
-/// dictionary is itself.
+/// Returns the meaning of a constant whose expression is one leaf: a text is the next string, and a word of the dictionary is itself.
 fn leaf_constant<B: Bounds>(compilation: &Compilation<B>) -> Option<Meaning>
     ensures { let w = work compilation.now in result ≡ leaf_meaning w.unit.gathering.leaves w }
 {
@@ -266,8 +262,7 @@ fn declare_constant<B: Bounds>(
     end_constant(compilation, context, first, name, refused, finding)
 }
 
-/// Ends the directive of a constant, whose name was refused or not. The text or the word of its expression is added
-/// where it has no error.
+/// Ends the directive of a constant, whose name was refused or not. The text or the word of its expression is added where it has no error.
 fn end_constant<B: Bounds>(
     compilation: &mut Compilation<B>,
     context: &Context<'_>,

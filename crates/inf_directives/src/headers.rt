@@ -22,7 +22,6 @@ const SERIAL_DIGITS: usize = 6;
 
 // Functions for releases
 
-/// Returns the number of the expression in `forest`, where it is known.
 fn known_number(forest: &Forest) -> Option<u16>
     ensures { result ≡ known_number (map tree_in (rooted_in forest.now)) }
 {
@@ -33,7 +32,6 @@ fn known_number(forest: &Forest) -> Option<u16>
     }
 }
 
-/// Returns the finding about the expression of a release: `found`, or else that its `number` is not known.
 fn release_finding(number: Option<u16>, found: Option<Finding>) -> Option<Finding>
     ensures { result ≡ release_finding number found }
 {
@@ -68,8 +66,7 @@ fn end_release<B: Bounds>(
     number: Option<u16>,
     finding: Option<Finding>,
 ) -> Result<(), AllocError>
-    ensures { OnOk result (work compilation.new
-        ≡ release_ended B.most (handed context.now) first number finding (work compilation.old)) }
+    ensures { OnOk result (work compilation.new ≡ release_ended B.most (handed context.now) first number finding (work compilation.old)) }
 {
     tell_release(compilation, context, number, finding)?;
     compilation.end_unit(context, first, true, &Findings::alone(finding))
@@ -83,8 +80,7 @@ fn release_with<B: Bounds>(
     number: Option<u16>,
     found: Option<Finding>,
 ) -> Result<(), AllocError>
-    ensures { OnOk result (work compilation.new
-        ≡ release_with B.most (handed context.now) first number found (work compilation.old)) }
+    ensures { OnOk result (work compilation.new ≡ release_with B.most (handed context.now) first number found (work compilation.old)) }
 {
     let finding = release_finding(number, found);
     end_release(compilation, context, first, number, finding)

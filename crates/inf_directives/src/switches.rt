@@ -15,12 +15,10 @@ use inf_settings::bounds::Bounds;
 use inf_unit::directives::Request;
 use std::alloc::AllocError;
 
-/// Chooses by the letters of the first of `names`, behind those that came before, unless these have the directive
-/// ignored.
+/// Chooses by the letters of the first of `names`, behind those that came before, unless these have the directive ignored.
 ///
-/// Letters behind the beginning of code, and a letter that is unknown, are errors, told at the place `first` where the
-/// directive begins; then nothing changes. Else all sources are read by the character set of the letters, which is
-/// asked of the reading.
+/// Letters behind the beginning of code, and a letter that is unknown, are errors, told at the place `first` where the directive begins;
+/// then nothing changes. Else all sources are read by the character set of the letters, which is asked of the reading.
 pub fn switches<B: Bounds>(
     compilation: &mut Compilation<B>,
     context: &Context<'_>,
@@ -41,11 +39,8 @@ pub fn switches<B: Bounds>(
     switch(compilation, context, first, letters)
 }
 
-/// Returns the choices of the letters so far with `more` behind them. There are none where code has begun or a letter
-/// of `more` is unknown.
 fn letters_behind<B: Bounds>(compilation: &Compilation<B>, more: &[u8]) -> Option<Letters>
-    ensures { let before = work compilation.now in
-        result ≡ letters_behind (has_code before.output.code) more.now before.letters }
+    ensures { let before = work compilation.now in result ≡ letters_behind (has_code before.output.code) more.now before.letters }
 {
     if compilation.output.code.routines() > 0 {
         return None;
@@ -53,8 +48,7 @@ fn letters_behind<B: Bounds>(compilation: &Compilation<B>, more: &[u8]) -> Optio
     compilation.letters.and(more)
 }
 
-/// Ends the directive, which begins at `first`, with the choices that hold from now on, or an error where there are
-/// none.
+/// Ends the directive, which begins at `first`, with the choices that hold from now on, or an error where there are none.
 fn switch<B: Bounds>(
     compilation: &mut Compilation<B>,
     context: &Context<'_>,

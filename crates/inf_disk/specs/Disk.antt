@@ -22,30 +22,25 @@ is_named_as_source name = ends_with (◌==◌) name (codes ".inf") || ends_with 
 -- The story's file is written from its front, made where there is none, and cut to nothing where there is one; one that is named as a source
 -- is made anew or not at all.
 abbrev pub story_options : List ℕ → OpenOptions
-story_options name =
-    with_create_new (with_truncate (with_create (with_write new_options true) true) true) (is_named_as_source name)
+story_options name = with_create_new (with_truncate (with_create (with_write new_options true) true) true) (is_named_as_source name)
 
--- An opening that succeeds adds a file behind the open ones. Any other leaves them as they were, and has its fault by
--- the system's reason, which is kept; but for want of memory it may fail with no reason of the system, and then the reason
--- that was kept before stays.
+-- An opening that succeeds adds a file behind the open ones. Any other leaves them as they were, and has its fault by the system's reason,
+-- which is kept; but for want of memory it may fail with no reason of the system, and then the reason that was kept before stays.
 abbrev pub OpensFile : {F : Type 0} → List F → List F → Option ErrorKind → Option ErrorKind → Result Unit OpenFault → Type 0
 OpensFile {F} old new before reason (Ok _) = (reason ≡ None) × (file : F) × (new ≡ old ++ file ∷ [])
 OpensFile old new before reason (Err OpenFault.Memory) =
     (new ≡ old) × ((reason ≡ before) ⊎ ((kind : ErrorKind) × (reason ≡ Some kind) × (fault_of_kind kind ≡ OpenFault.Memory)))
-OpensFile old new before reason (Err refused) =
-    (new ≡ old) × (kind : ErrorKind) × (reason ≡ Some kind) × (refused ≡ fault_of_kind kind)
+OpensFile old new before reason (Err refused) = (new ≡ old) × (kind : ErrorKind) × (reason ≡ Some kind) × (refused ≡ fault_of_kind kind)
 
 -- a read of the last of the open files, and no other changed
 abbrev pub ReadsLast : {F E : Type 0} → (F → Option (List ℕ)) → List F → List F → Result ℕ E → List ℕ → Type 0
-ReadsLast {F} remaining old new answer buffer =
-    (before : F) × (after : F) × (slice_get old (length old - 1) ≡ Some before)
+ReadsLast {F} remaining old new answer buffer = (before : F) × (after : F) × (slice_get old (length old - 1) ≡ Some before)
     × (new ≡ slice_set old (length old - 1) after) × ReadConsumes (remaining before) (remaining after) answer buffer
 
 -- A write to a file that is made first where there is none yet. Where it cannot be made, nothing is written.
 abbrev pub WritesMade : {F E : Type 0} → (F → Option (List ℕ)) → Option F → Option F → Result ℕ E → List ℕ → Type 0
 WritesMade {F} contents (Some before) new answer bytes =
     (after : F) × (new ≡ Some after) × WriteAppends (contents before) (contents after) answer bytes
-WritesMade {F} contents None (Some after) answer bytes =
-    (made : F) × WriteAppends (contents made) (contents after) answer bytes
+WritesMade {F} contents None (Some after) answer bytes = (made : F) × WriteAppends (contents made) (contents after) answer bytes
 WritesMade contents None None (Ok _) bytes = ⊥
 WritesMade contents None None (Err _) bytes = ⊤

@@ -4,7 +4,8 @@ ghost use Rattle.std.specs.Prelude.{◌≡◌, ◌==◌, ◌&&◌, IsTrue, ◌+�
 ghost use Rattle.std.specs.Prelude.{IsSome, IsErrOf, IfOk, IfSome, OnOk, is_ok, length, min, if◌then◌else◌};
 ghost use Rattle.inf_devices.specs.Files.{Rose, counts_closed, counts_opened, counts_read, last_count, nothing_given, tells_failure};
 ghost use Rattle.inf_devices.specs.Files.{with_name};
-ghost use Rattle.inf_disk.specs.Disk.{fault_of_kind, is_named_as_source, story_options, OpensFile, ReadsLast, WritesMade};
+ghost use Rattle.inf_disk.specs.{Disk.fault_of_kind, Disk.is_named_as_source, Disk.story_options, Disk.OpensFile, Disk.ReadsLast};
+ghost use Rattle.inf_disk.specs.{Disk.WritesMade, Trouble.ReadTrouble, Trouble.WriteTrouble};
 
 use inf_devices::failures::Failures;
 use inf_devices::files::{Files, OpenFault, ReadFault};
@@ -181,8 +182,7 @@ impl<'r> StoryPlace<'r> {
         self.is_source.get()
     }
 
-    /// Notes whether a file that was opened as a source is the file of this name, also where it was
-    /// opened by another name.
+    /// Notes whether a file that was opened as a source is the file of this name, also where it was opened by another name.
     fn look_at<R: rt::Files>(&self, system: &R, source: &R::File) {
         let Look::File(story) = self.look(system) else {
             return;
@@ -196,7 +196,6 @@ impl<'r> StoryPlace<'r> {
     }
 }
 
-/// Returns whether a file of this name is taken for a source, as its end tells: `.inf` or `.h`.
 fn is_named_as_source(name: &str) -> bool
     ensures { result ≡ is_named_as_source name.now }
 {
@@ -235,8 +234,7 @@ pub struct DiskFiles<'r, R: rt::Files> {
 }
 
 impl<'r, R: rt::Files> DiskFiles<'r, R> {
-    /// Makes a reader of the files that `system` has, none of them open yet. Where one that is opened is the story's,
-    /// its place notes it.
+    /// Makes a reader of the files that `system` has, none of them open yet. Where one that is opened is the story's, its place notes it.
     pub fn new(alloc: Global, system: &'r R, story: &'r StoryPlace<'r>) -> DiskFiles<'r, R>
         ensures files { result.open_files.items ≡ [] }
         ensures faults { result.trouble.failures ≡ 0 }
@@ -292,11 +290,7 @@ fn read_some<F: Read>(
 ) -> Result<usize, ReadFault>
     ensures bytes { ReadConsumes (F.remaining file.old) (F.remaining file.new) result to.new }
     ensures count { IfOk result (λ n. n ≤ length to.new) }
-    ensures failed { IsErr result → Rose trouble.old.failures trouble.new.failures }
-    ensures reason { IsErr result → IsSome trouble.new.reason }
-    ensures patient { IsErr result → ¬ (trouble.new.reason ≡ Some ErrorKind.Interrupted) }
-    ensures kept { OnOk result (trouble.new ≡ trouble.old) }
-    ensures later { trouble.old.failures ≤ trouble.new.failures }
+    ensures trouble { ReadTrouble result trouble.old trouble.new }
 {
     for _ in 0..u64::MAX {
         let error = match file.read(to) {
@@ -338,8 +332,7 @@ impl<R: rt::Files> Files for DiskFiles<'_, R> {
         ensures depth { length self.new.open_files.items ≡ (if is_ok result
             then length self.old.open_files.items + 1 else length self.old.open_files.items) }
         ensures opened { self.new.names ≡ (if is_ok result then with_name name.now self.old.names else self.old.names) }
-        ensures cause { IsErrOf result OpenFault.Device →
-            Rose self.old.trouble.failures self.new.trouble.failures }
+        ensures cause { IsErrOf result OpenFault.Device → Rose self.old.trouble.failures self.new.trouble.failures }
         ensures faults { (self.old.trouble.failures ≤ self.new.trouble.failures)
             × (tells_failure result ≡ false → self.new.trouble.failures ≡ self.old.trouble.failures) }
         ensures counts { self.new.given ≡ (if is_ok result then counts_opened self.old.given else self.old.given) }
@@ -373,18 +366,12 @@ impl<R: rt::Files> Files for DiskFiles<'_, R> {
 
     fn read(&mut self, to: &mut [u8]) -> Result<usize, ReadFault>
         requires is_open { 0 < length self.old.open_files.items }
-        ensures bytes { ReadsLast (R.File.remaining) self.old.open_files.items
-            self.new.open_files.items result to.new }
+        ensures bytes { ReadsLast (R.File.remaining) self.old.open_files.items self.new.open_files.items result to.new }
         ensures count { IfOk result (λ n. n ≤ length to.new) }
         ensures counts { self.new.given ≡ counts_read result self.old.given }
         ensures depth { length self.new.open_files.items ≡ length self.old.open_files.items }
         ensures opened { self.new.names ≡ self.old.names }
-        ensures cause { IsErr result → Rose self.old.trouble.failures self.new.trouble.failures }
-        ensures reason { IsErr result → IsSome self.new.trouble.reason }
-        ensures patient { IsErr result → ¬ (self.new.trouble.reason ≡ Some ErrorKind.Interrupted) }
-        ensures kept { OnOk result (self.new.trouble ≡ self.old.trouble) }
-        ensures faults { (self.old.trouble.failures ≤ self.new.trouble.failures)
-            × (IsOk result → self.new.trouble.failures ≡ self.old.trouble.failures) }
+        ensures trouble { ReadTrouble result self.old.trouble self.new.trouble }
     {
         let last = self.open_files.len() - 1;
         let count = read_some(&mut self.open_files[last], to, &mut self.trouble)?;
@@ -394,8 +381,7 @@ impl<R: rt::Files> Files for DiskFiles<'_, R> {
 
     fn close(&mut self)
         requires is_open { 0 < length self.old.open_files.items }
-        ensures files { (file : _) ×
-            (self.old.open_files.items ≡ self.new.open_files.items ++ file ∷ []) }
+        ensures files { (file : _) × (self.old.open_files.items ≡ self.new.open_files.items ++ file ∷ []) }
         ensures depth { length self.new.open_files.items + 1 ≡ length self.old.open_files.items }
         ensures opened { self.new.names ≡ self.old.names }
         ensures faults { self.new.trouble.failures ≡ self.old.trouble.failures }
@@ -407,20 +393,13 @@ impl<R: rt::Files> Files for DiskFiles<'_, R> {
     }
 }
 
-/// Writes once, and again for as long as a signal comes first. A failure, and a write of nothing,
-/// is counted.
+/// Writes once, and again for as long as a signal comes first. A failure, and a write of nothing, is counted.
 fn write_some<W: Write>(to: &mut W, bytes: &[u8], trouble: &mut Trouble) -> Result<usize, SinkFault>
     requires { 0 < length bytes.now }
     ensures bytes { WriteAppends (W.contents to.old) (W.contents to.new) result bytes.now }
     ensures count { IfOk result (λ n. n ≤ length bytes.now) }
-    ensures failed { IsErr result → Rose trouble.old.failures trouble.new.failures }
-    ensures reason { IsErr result → IsSome trouble.new.reason }
+    ensures trouble { WriteTrouble result trouble.old trouble.new }
     ensures patient { IsErr result → ¬ (trouble.new.reason ≡ Some ErrorKind.Interrupted) }
-    ensures nothing { result ≡ Ok 0 → Rose trouble.old.failures trouble.new.failures }
-    ensures empty { result ≡ Ok 0 → trouble.new.reason ≡ Some ErrorKind.WriteZero }
-    ensures kept { IfOk result (λ n. 0 < n → trouble.new ≡ trouble.old) }
-    ensures later { (trouble.old.failures ≤ trouble.new.failures)
-        × IfOk result (λ n. 0 < n → trouble.new.failures ≡ trouble.old.failures) }
 {
     for _ in 0..u64::MAX {
         let error = match to.write(bytes) {
@@ -475,18 +454,10 @@ impl<W: Write> Sink for OutputSink<W> {
 
     fn write(&mut self, bytes: &[u8]) -> Result<usize, SinkFault>
         requires { 0 < length bytes.now }
-        ensures bytes { WriteAppends (W.contents self.old.output) (W.contents self.new.output)
-            result bytes.now }
+        ensures bytes { WriteAppends (W.contents self.old.output) (W.contents self.new.output) result bytes.now }
         ensures count { IfOk result (λ n. n ≤ length bytes.now) }
-        ensures failed { IsErr result → Rose self.old.trouble.failures self.new.trouble.failures }
-        ensures reason { IsErr result → IsSome self.new.trouble.reason }
+        ensures trouble { WriteTrouble result self.old.trouble self.new.trouble }
         ensures patient { IsErr result → ¬ (self.new.trouble.reason ≡ Some ErrorKind.Interrupted) }
-        ensures nothing { result ≡ Ok 0 →
-            Rose self.old.trouble.failures self.new.trouble.failures }
-        ensures empty { result ≡ Ok 0 → self.new.trouble.reason ≡ Some ErrorKind.WriteZero }
-        ensures kept { IfOk result (λ n. 0 < n → self.new.trouble ≡ self.old.trouble) }
-        ensures failures { (self.old.trouble.failures ≤ self.new.trouble.failures)
-            × IfOk result (λ n. 0 < n → self.new.trouble.failures ≡ self.old.trouble.failures) }
     {
         write_some(&mut self.output, bytes, &mut self.trouble)
     }
@@ -525,8 +496,7 @@ impl<'r, R: rt::Files> StorySink<'r, R> {
         ensures made { OnOk result (IsSome self.new.file) }
         ensures held { IsSome self.old.file → IsOk result × (self.new.file ≡ self.old.file) }
         ensures none { IsErr result → self.new.file ≡ None }
-        ensures spared { IsTrue is_source → self.old.file ≡ None → IsErr result
-            × (self.new.trouble.reason ≡ Some ErrorKind.ResourceBusy) }
+        ensures spared { IsTrue is_source → self.old.file ≡ None → IsErr result × (self.new.trouble.reason ≡ Some ErrorKind.ResourceBusy) }
         ensures kept { OnOk result (self.new.trouble ≡ self.old.trouble) }
         ensures failed { IsErr result → Rose self.old.trouble.failures self.new.trouble.failures }
         ensures reason { IsErr result → IsSome self.new.trouble.reason }
@@ -598,14 +568,7 @@ impl<R: rt::Files> Sink for StorySink<'_, R> {
         requires { 0 < length bytes.now }
         ensures bytes { WritesMade (R.File.contents) self.old.file self.new.file result bytes.now }
         ensures count { IfOk result (λ n. n ≤ length bytes.now) }
-        ensures failed { IsErr result → Rose self.old.trouble.failures self.new.trouble.failures }
-        ensures reason { IsErr result → IsSome self.new.trouble.reason }
-        ensures nothing { result ≡ Ok 0 →
-            Rose self.old.trouble.failures self.new.trouble.failures }
-        ensures empty { result ≡ Ok 0 → self.new.trouble.reason ≡ Some ErrorKind.WriteZero }
-        ensures kept { IfOk result (λ n. 0 < n → self.new.trouble ≡ self.old.trouble) }
-        ensures failures { (self.old.trouble.failures ≤ self.new.trouble.failures)
-            × IfOk result (λ n. 0 < n → self.new.trouble.failures ≡ self.old.trouble.failures) }
+        ensures trouble { WriteTrouble result self.old.trouble self.new.trouble }
         ensures patient { IsErr result → self.new.trouble.reason ≡ Some ErrorKind.Interrupted → self.new.file ≡ None }
     {
         self.make(self.place.is_source())?;

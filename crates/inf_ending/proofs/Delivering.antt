@@ -1,6 +1,6 @@
 -- The lines that were written of the last ones, and of all.
 use Rattle.std.proofs.Common.{option_map, IsSome, ◌≡◌, ℕ, List, [], ◌++◌, take, drop, take-append-drop, append_assoc, arith, Option, Some}
-use Rattle.std.proofs.Common.{None, Result, Ok, Err, IfOk, refl, sym, ap, subst, ◌∙◌, ◌+◌, append-nil}
+use Rattle.std.proofs.Common.{None, Result, Ok, Err, IfOk, refl, sym, ap, subst, ◌∙◌, append-nil}
 use Rattle.inf_report.specs.Reports.{closing}
 use Rattle.inf_devices.specs.{Sinks.Takes, declared.sinks.Sink.Ghosts as Sink}
 use Rattle.inf_settings.specs.Bounds.{Limits}
@@ -12,10 +12,9 @@ use Rattle.inf_ending.proofs.Endings.{success_clean}
 
 pub takes_then : (old mid new : Option (List ℕ)) (xs ys : List ℕ) → Takes old mid xs → Takes mid new ys → Takes old new (xs ++ ys)
 takes_then None mid new xs ys a b = subst (λ m. Takes m new ys) a b
-takes_then (Some before) mid new xs ys a b = by_mid (subst (λ m. Takes m new ys) a b)
-  where
-    by_mid : new ≡ Some ((before ++ xs) ++ ys) → new ≡ Some (before ++ (xs ++ ys))
-    by_mid e = e ∙ ap (λ l. Some l) (append_assoc before xs ys)
+takes_then (Some before) mid new xs ys a b = by_mid (subst (λ m. Takes m new ys) a b) where
+  by_mid : new ≡ Some ((before ++ xs) ++ ys) → new ≡ Some (before ++ (xs ++ ys))
+  by_mid e = e ∙ ap (λ l. Some l) (append_assoc before xs ys)
 
 pub takes_none : (old : Option (List ℕ)) → Takes old old []
 takes_none None = refl
@@ -43,8 +42,7 @@ appends_then m a b c p q = record {
 
 -- the last lines that were written then are the last of all
 ends_behind_of : {S : Type 0} (m : Sink S) (a b c : S) (limits : Limits) (serial : List ℕ) (files : FileNames) (w : Compilation)
-    (story : Option (List ℕ))
-    → Appends m a b → EndsCleanOf limits serial files w story (m.taken b) (m.taken c)
+    (story : Option (List ℕ)) → Appends m a b → EndsCleanOf limits serial files w story (m.taken b) (m.taken c)
     → EndsCleanOf limits serial files w story (m.taken a) (m.taken c)
 ends_behind_of m a b c limits serial files w story p q =
     let closes = closing 0 q.warnings in

@@ -25,20 +25,17 @@ most_is_small Scale.Eight = refl
 
 -- The outcome of a compilation whose last names are told is its outcome.
 pub told_is_finished : {E : Type 0} (limits : Limits) (serial : List ℕ) (files : FileNames) (w told : Compilation)
-    (result : Result CodeOutcome E)
-    → told ≡ record (begun_at limits files first_place w) {
+    (result : Result CodeOutcome E) → told ≡ record (begun_at limits files first_place w) {
       report = with_all_undeclared files (begun_at limits files first_place w).output.names.names
           (begun_at limits files first_place w).report;
-    }
-    → IfOk result (λ t. seen t ≡ begun (told_of serial told) files told.output told.report (main_of told.output.names))
+    } → IfOk result (λ t. seen t ≡ begun (told_of serial told) files told.output told.report (main_of told.output.names))
     → IfOk result (λ t. seen t ≡ finished limits serial files w)
 told_is_finished limits serial files w told result same given =
     subst (λ v. IfOk result (λ t. seen t ≡ begun (told_of serial v) files v.output v.report (main_of v.output.names))) same given
 
 -- The fault of a story that would be too long for its version, as it is told.
 pub longest_told : {E : Type 0} (t : Telling) (files : FileNames) (main : ℕ) (names : List Value) (code : Routines)
-    (strings : StringArea) (tables : AllTables) (r : Reported)
-    (s : Scale) (bytes : List ℕ) (most : ℕ) (fault : LinkFault)
+    (strings : StringArea) (tables : AllTables) (r : Reported) (s : Scale) (bytes : List ℕ) (most : ℕ) (fault : LinkFault)
     (result : Result CodeOutcome E) → s ≡ code.scale → bytes ≡ strings.bytes → most ≡ most_bytes s → fault ≡ LinkFault.StoryTooLong
     → (fault ≡ LinkFault.Memory)
     ⊎ (too_long (record { release = t.release; serial = t.serial; scale = s }) main code.finished bytes tables ≡ Some fault)
@@ -54,8 +51,7 @@ longest_told t files main names code strings tables r s bytes most fault result 
     ] in
     subst (λ o. IfOk result (λ e. seen e ≡ o))
     (ap (λ n. refused (with_fatal (first_line files) (StoryTooLong n) r)) (longest ∙ ap most_bytes same)
-    ∙ sym (ap (λ o. linked t files main names code strings tables r o) found))
-    given
+    ∙ sym (ap (λ o. linked t files main names code strings tables r o) found)) given
 
 abbrev HasNone : Outcome → Type 0
 HasNone e = e.status ≡ Status.Errors → e.story ≡ None
@@ -82,8 +78,7 @@ begun_none t files o r (Some main) =
     of_both HasNone (is_clean r) (laid t files main o r) (refused r) (λ _. laid_none t files main o r) (λ _ _. refl)
 
 pub errors_none : (limits : Limits) (serial : List ℕ) (files : FileNames) (w : Compilation) →
-    (finished limits serial files w).status ≡ Status.Errors →
-    (finished limits serial files w).story ≡ None
+    (finished limits serial files w).status ≡ Status.Errors → (finished limits serial files w).story ≡ None
 errors_none limits serial files w =
     let b = begun_at limits files first_place w in
     begun_none (told_of serial b) files b.output (with_all_undeclared files b.output.names.names b.report) (main_of b.output.names)
@@ -155,8 +150,7 @@ begun_clean t files o r (Some main) =
     of_both (EndsSo r) (is_clean r) (laid t files main o r) (refused r) (λ clean. laid_clean t files main o r clean) (λ _ e. cc)
 
 pub success_clean : (limits : Limits) (serial : List ℕ) (files : FileNames) (w : Compilation) →
-    (finished limits serial files w).status ≡ Status.Success →
-    IsClean (counted limits files w) (finished limits serial files w)
+    (finished limits serial files w).status ≡ Status.Success → IsClean (counted limits files w) (finished limits serial files w)
 success_clean limits serial files w =
     let b = begun_at limits files first_place w in
     begun_clean (told_of serial b) files b.output (with_all_undeclared files b.output.names.names b.report) (main_of b.output.names)

@@ -1,7 +1,7 @@
 -- Failures to write messages are not told as anything else.
-use Rattle.std.proofs.Common.{◌≡◌, ℕ, Option, refl, ◌∙◌, subst, Result, Ok, Err, IfErr, IsErr, IsErrAnd}
-use Rattle.inf_ending.specs.{declared.faults.Fault.Fault, declared.faults.Halt.Halt}
-use Rattle.inf_ending.specs.Faults.{HaltHidesNone, HidesNoFailure, UnlessMessages, fault_of}
+use Rattle.std.proofs.Common.{◌≡◌, ℕ, refl, ◌∙◌, subst, Result, Ok, Err, IfErr, IsErr}
+use Rattle.inf_ending.specs.{declared.faults.Fault.Fault}
+use Rattle.inf_ending.specs.Faults.{HidesNoFailure, UnlessMessages}
 
 unless_any : (f : Fault) (A : Type 0) → A → UnlessMessages f A
 unless_any Fault.Memory A holds = holds
@@ -15,21 +15,10 @@ unless_more (Fault.Read name) A B h holds = h holds
 unless_more Fault.Messages A B h holds = tt
 unless_more (Fault.Story n) A B h holds = h holds
 
-unless_told : (f : Fault) (A : Type 0) → f ≡ Fault.Messages → UnlessMessages f A
-unless_told Fault.Memory A told = cc
-unless_told (Fault.Read name) A told = cc
-unless_told Fault.Messages A told = tt
-unless_told (Fault.Story n) A told = cc
-
 -- where nothing was written, no failure to write is hidden
 pub hides_none : {T : Type 0} (r : Result T Fault) (n : ℕ) → HidesNoFailure r n n
 hides_none (Ok x) n = (refl, tt)
 hides_none (Err f) n = (tt, unless_any f (n ≡ n) refl)
-
--- where the answer says that messages could not be written, no failure to write is hidden
-pub hides_told : {T : Type 0} (r : Result T Fault) (before now : ℕ) → IsErrAnd r (λ f. f ≡ Fault.Messages) → HidesNoFailure r before now
-hides_told (Ok x) before now told = absurd told
-hides_told (Err f) before now told = (tt, unless_told f (now ≡ before) told)
 
 -- where a refused call comes behind others that counted no failure, no failure to write is hidden
 pub hides_behind : {T : Type 0} (r : Result T Fault) (first before now : ℕ) → IsErr r → before ≡ first
@@ -45,16 +34,3 @@ hides_then r first before now same hides = let P : ℕ → Type 0 = λ n. HidesN
 -- a call that writes nothing, behind others that counted no failure
 pub hides_always : {T : Type 0} (r : Result T Fault) (first now : ℕ) → now ≡ first → HidesNoFailure r first now
 hides_always r first now same = hides_then r first now now same (hides_none r now)
-
--- nothing was written in a turn
-pub halt_hides_none : {T : Type 0} (r : Result T Halt) (lost : Option Fault) (n : ℕ) → HaltHidesNone r lost n n
-halt_hides_none (Ok x) lost n = (refl, tt)
-halt_hides_none (Err h) lost n = (tt, unless_any (fault_of h lost) (n ≡ n) refl)
-
--- the messages of a turn could not be written
-pub halt_hides_told : {T : Type 0} (r : Result T Halt) (lost : Option Fault) (before now : ℕ) → IsErrAnd r (λ h. h ≡ Halt.Messages)
-    → HaltHidesNone r lost before now
-halt_hides_told (Ok x) lost before now told = absurd told
-halt_hides_told (Err Halt.Memory) lost before now told = cc
-halt_hides_told (Err Halt.Read) lost before now told = cc
-halt_hides_told (Err Halt.Messages) lost before now told = (tt, tt)

@@ -76,8 +76,7 @@ sizes_of t main names code strings tables =
 abbrev pub linked : Telling → FileNames → ℕ → List Value → Routines → StringArea → AllTables → Reported → Option LinkFault → Outcome
 linked t files main names code strings tables r None =
     compiled (statistics_told t code tables (sizes_of t main names code strings tables) r) (bytes_of t main names code strings tables)
-linked t files main names code strings tables r (Some LinkFault.ReadableTooLong) =
-    refused (with_fatal (first_line files) ReadableTooLong r)
+linked t files main names code strings tables r (Some LinkFault.ReadableTooLong) = refused (with_fatal (first_line files) ReadableTooLong r)
 linked t files main names code strings tables r (Some LinkFault.StoryTooLong) =
     refused (with_fatal (first_line files) (StoryTooLong (most_bytes code.scale)) r)
 linked t files main names code strings tables r (Some LinkFault.Memory) = refused r
@@ -113,8 +112,7 @@ finished limits serial files w = finished_with serial files (begun_at limits fil
 -- declared.
 abbrev pub counted : Limits → FileNames → Compilation → Reported
 counted limits files w =
-    let b = begun_at limits files first_place w in
-    with_all_undeclared files b.output.names.names b.report
+    let b = begun_at limits files first_place w in with_all_undeclared files b.output.names.names b.report
 
 -- the outcome of a source that is not there
 abbrev pub missing : List ℕ → Outcome

@@ -2,8 +2,7 @@
 use Rattle.std.specs.Prelude.{◌≡◌, ℕ, List, string_bytes, IfErr, OnOk, Option, Result, unwrap_or}
 use Rattle.inf_ending.specs.{declared.faults.Fault.Fault, declared.faults.Halt.Halt}
 
--- A fault of reading, with the name that it tells, and one of writing messages have their causes. A fault of writing the
--- story never comes.
+-- A fault of reading, with the name that it tells, and one of writing messages have their causes. A fault of writing the story never comes.
 abbrev pub Caused : Fault → (List ℕ → Type 0) → Type 0 → Type 0
 Caused Fault.Memory P Q = Unit {0}
 Caused (Fault.Read name) P Q = P (string_bytes name)
@@ -53,13 +52,3 @@ abbrev pub fault_of : Halt → Option Fault → Fault
 fault_of Halt.Memory lost = Fault.Memory
 fault_of Halt.Read lost = unwrap_or lost Fault.Memory
 fault_of Halt.Messages lost = Fault.Messages
-
--- A turn that was given up counts a failure to write messages only where it tells of one.
-abbrev pub HaltHidesNone : {T : Type 0} → Result T Halt → Option Fault → ℕ → ℕ → Type 0
-HaltHidesNone answer lost before now =
-    OnOk answer (now ≡ before) × IfErr answer (λ halt. UnlessMessages (fault_of halt lost) (now ≡ before))
-
--- A turn that was given up counts a failure to open or to read a source only where it tells of one.
-abbrev pub HaltTellsEachRead : {T : Type 0} → Result T Halt → Option Fault → ℕ → ℕ → Type 0
-HaltTellsEachRead answer lost before now =
-    OnOk answer (now ≡ before) × IfErr answer (λ halt. UnlessRead (fault_of halt lost) (now ≡ before))

@@ -46,8 +46,7 @@ pub fn conclude<M: Sink, B: Bounds>(
         EndsCleanOf B.most serial.now names.now.names (work_of work) (story_in compiled) (M.taken messages.old) (M.taken messages.new)) }
     ensures fault { IfErr result (λ fault. Caused fault (λ name. ⊥) (Rose (M.failures messages.old) (M.failures messages.new))) }
     ensures memory { IsErrOf result Fault.Memory → messages.new ≡ messages.old }
-    ensures wrote { Appends M.Sink messages.old messages.new
-        × HidesNoFailure result (M.failures messages.old) (M.failures messages.new) }
+    ensures wrote { Appends M.Sink messages.old messages.new × HidesNoFailure result (M.failures messages.old) (M.failures messages.new) }
 {
     let ending = finish(alloc, names, serial, work)?;
     written(ending, messages)
@@ -59,8 +58,7 @@ pub fn written<M: Sink>(ending: Outcome, messages: &mut M) -> Result<Compiled, F
     ensures err { OnErr result (TakesFront (seen ending).messages (M.taken messages.old) (M.taken messages.new)) }
     ensures fault { IfErr result (λ fault. Caused fault (λ name. ⊥) (Rose (M.failures messages.old) (M.failures messages.new))) }
     ensures only { IfErr result (λ fault. fault ≡ Fault.Messages) }
-    ensures wrote { Appends M.Sink messages.old messages.new
-        × HidesNoFailure result (M.failures messages.old) (M.failures messages.new) }
+    ensures wrote { Appends M.Sink messages.old messages.new × HidesNoFailure result (M.failures messages.old) (M.failures messages.new) }
 {
     match write_whole(messages, ending.messages.as_slice()) {
         Ok(()) => Ok(Compiled {

@@ -40,7 +40,6 @@ pub(crate) struct Telling {
     symbols: usize,
 }
 
-/// Returns the numbers that are told of the story of `work`: its serial number is `date`, where no directive told another.
 fn told_of<B: Bounds>(date: &[u8; 6], work: &Compilation<B>) -> Telling
     ensures { result ≡ told_of date.now (work_of work.now) }
 {
@@ -72,8 +71,7 @@ pub(crate) fn finish<B: Bounds>(
 
 /// Begins code, unless it has begun, and tells each name that was used and never declared.
 fn tell_last<B: Bounds>(files: &Stack, work: &mut Compilation<B>) -> Result<(), AllocError>
-    ensures { let begun = begun_at B.most files.now.names first_place (work_of work.old) in
-        OnOk result (work_of work.new ≡ record begun
+    ensures { let begun = begun_at B.most files.now.names first_place (work_of work.old) in OnOk result (work_of work.new ≡ record begun
         { report = with_all_undeclared files.now.names begun.output.names.names begun.report }) }
 {
     work.begin(files, FIRST_LINE)?;

@@ -18,7 +18,7 @@ pub enum Operand {
 }
 
 /// The functions of the system (Designer's Manual, fourth edition, sections 1.14 and 3.4).
-#[derive(Clone, Copy, PartialEq, Eq)]
+#[derive(Clone, Copy, Debug, PartialEq, Eq)]
 pub enum Function {
     Child,
     Sibling,

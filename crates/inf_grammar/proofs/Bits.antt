@@ -12,14 +12,12 @@ pub joined_bit : (ws : List ℕ) (k j : ℕ) → ((i : ℕ) → get_or ws i 0 < 
 joined_bit [] k j w l = bit_at-zero (64 * k + j) ∙ sym (bit_at-zero j)
 joined_bit (x ∷ ws) zero j w l = ap (bit_at (joined_words ws * 2 ^ 64 + x)) (omega arith) ∙ bit_at_cat_low (joined_words ws) 64 x j l
 joined_bit (x ∷ ws) (suc k) j w l = bit_at_cat_high (joined_words ws) 64 x (64 * suc k + j) (w 0) (omega arith)
-    ∙ ap (bit_at (joined_words ws)) (omega arith)
-    ∙ joined_bit ws k j (λ i. w (suc i)) l
+    ∙ ap (bit_at (joined_words ws)) (omega arith) ∙ joined_bit ws k j (λ i. w (suc i)) l
 
 pub word_bit : (ws : List ℕ) (atom : ℕ) → ((i : ℕ) → get_or ws i 0 < 2 ^ 64) →
     nat_eq (bit_and (get_or ws (atom / 64) 0 / 2 ^ (atom % 64)) 1) 1 ≡ has (joined_words ws) atom
 word_bit ws atom w = ap (λ b. nat_eq b 1) (shr_and_one (get_or ws (atom / 64) 0) (atom % 64)
-    ∙ sym (joined_bit ws (atom / 64) (atom % 64) w (omega arith))
-    ∙ ap (bit_at (joined_words ws)) (omega arith))
+    ∙ sym (joined_bit ws (atom / 64) (atom % 64) w (omega arith)) ∙ ap (bit_at (joined_words ws)) (omega arith))
 
 pub no_word_bit : (ws : List ℕ) (atom : ℕ) → ((i : ℕ) → get_or ws i 0 < 2 ^ 64) → length ws ≤ atom / 64 → false ≡ has (joined_words ws) atom
 no_word_bit ws atom w l =

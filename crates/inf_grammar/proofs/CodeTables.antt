@@ -26,13 +26,12 @@ abbrev pub row_view : CodeRow → RowView
 row_view row = record { begins = set_number row.begins; parts = reverse (cut row.parts all_parts) }
 
 abbrev pub rule_view : CodeRule → RuleView
-rule_view rule =
-    record {
-      begins = set_number rule.begins;
-      is_empty = rule.is_empty;
-      rows = map row_view (cut rule.rows all_rows);
-      other = reverse (cut rule.other all_parts);
-    }
+rule_view rule = record {
+  begins = set_number rule.begins;
+  is_empty = rule.is_empty;
+  rows = map row_view (cut rule.rows all_rows);
+  other = reverse (cut rule.other all_parts);
+}
 
 abbrev pub row_of : Row Action → RowView
 row_of row = record { begins = beginning grammar known row.parts; parts = row.parts }
@@ -163,21 +162,17 @@ found_is_chosen atom other (c ∷ code) (r ∷ rows) e =
 
 pub span_is_way : (atom at : ℕ) (rule : CodeRule) → IsRule rule at →
     reverse (cut (span_for rule atom) all_parts) ≡ way grammar known atom at
-span_is_way atom at rule is = by_begun (has (set_number rule.begins) atom) refl
-  where
-    rows : List (Row Action)
-    rows = grammar.rows_of at
+span_is_way atom at rule is = by_begun (has (set_number rule.begins) atom) refl where
+  rows : List (Row Action)
+  rows = grammar.rows_of at
 
-    by_begun : (b : Bool) → has (set_number rule.begins) atom ≡ b → reverse (cut (span_for rule atom) all_parts) ≡ way grammar known atom at
-    by_begun true e =
-        ap (λ s. reverse (cut s all_parts)) (cond-true (has (set_number rule.begins) atom) (found atom rule.other (cut rule.rows all_rows))
-        rule.other e)
-        ∙ found_is_chosen atom rule.other (cut rule.rows all_rows) rows is.rows
-        ∙ ap (λ other. row_for grammar known atom other rows) is.other
-    by_begun false e =
-        let none =
-        ap (λ s. has s atom) (decided_parts grammar known at (language_is_decided at)).whole ∙ ap (λ n. has n atom) (sym is.begins) ∙ e in
-        ap (λ s. reverse (cut s all_parts)) (cond-false (has (set_number rule.begins) atom) (found atom rule.other (cut rule.rows all_rows))
-        rule.other e)
-        ∙ is.other
-        ∙ sym (none_chooses_other grammar known atom (passed_row grammar known rows) rows none)
+  by_begun : (b : Bool) → has (set_number rule.begins) atom ≡ b → reverse (cut (span_for rule atom) all_parts) ≡ way grammar known atom at
+  by_begun true e =
+      ap (λ s. reverse (cut s all_parts)) (cond-true (has (set_number rule.begins) atom) (found atom rule.other (cut rule.rows all_rows))
+      rule.other e) ∙ found_is_chosen atom rule.other (cut rule.rows all_rows) rows is.rows
+      ∙ ap (λ other. row_for grammar known atom other rows) is.other
+  by_begun false e =
+      let none =
+      ap (λ s. has s atom) (decided_parts grammar known at (language_is_decided at)).whole ∙ ap (λ n. has n atom) (sym is.begins) ∙ e in
+      ap (λ s. reverse (cut s all_parts)) (cond-false (has (set_number rule.begins) atom) (found atom rule.other (cut rule.rows all_rows))
+      rule.other e) ∙ is.other ∙ sym (none_chooses_other grammar known atom (passed_row grammar known rows) rows none)

@@ -36,21 +36,20 @@ pub record FirstTaken (symbols : List (Symbol Action)) (atom : ℕ) (atoms : Lis
 
 pub first_taken : (symbols : List (Symbol Action)) (atom : ℕ) (atoms : List ℕ) →
     is_some (read grammar known symbols (atom ∷ atoms)) ≡ true → FirstTaken symbols atom atoms
-first_taken symbols atom atoms h = by_fit (fits grammar known atom symbols) refl
-  where
-    events : List (Event Action)
-    events = events_of (taken grammar known atom symbols).actions atom
+first_taken symbols atom atoms h = by_fit (fits grammar known atom symbols) refl where
+  events : List (Event Action)
+  events = events_of (taken grammar known atom symbols).actions atom
 
-    on : Option (Read Action)
-    on = read grammar known (taken grammar known atom symbols).left atoms
+  on : Option (Read Action)
+  on = read grammar known (taken grammar known atom symbols).left atoms
 
-    by_fit : (b : Bool) → fits grammar known atom symbols ≡ b → FirstTaken symbols atom atoms
-    by_fit true e = record {
-      fits_it = e;
-      goes_on = sym (ap (λ b. is_some (if b then behind events on else None)) e ∙ some_behind events on) ∙ h;
-      tells = ap (λ b. is_inside (if b then behind events on else None)) e ∙ inside_behind events on;
-    }
-    by_fit false e = let none : false ≡ true = sym (ap (λ b. is_some (if b then behind events on else None)) e) ∙ h in cc
+  by_fit : (b : Bool) → fits grammar known atom symbols ≡ b → FirstTaken symbols atom atoms
+  by_fit true e = record {
+    fits_it = e;
+    goes_on = sym (ap (λ b. is_some (if b then behind events on else None)) e ∙ some_behind events on) ∙ h;
+    tells = ap (λ b. is_inside (if b then behind events on else None)) e ∙ inside_behind events on;
+  }
+  by_fit false e = let none : false ≡ true = sym (ap (λ b. is_some (if b then behind events on else None)) e) ∙ h in cc
 
 follow : (is_open : Bool) (symbols : List (Symbol Action)) (atoms : List ℕ) → stands is_open symbols ≡ true →
     is_some (read grammar known symbols atoms) ≡ true → is_inside (read grammar known symbols atoms) ≡ open_behind_all is_open atoms
@@ -110,11 +109,10 @@ directive_row_on atom n parts h w f =
     ]
   where
     others : (are_outer parts ≡ true) × ((bit_and (beginning grammar known parts) arrays == 0) ≡ true) → Begun atom (left_of atom n parts)
-    others both =
-        elim (or_cases (are_plain outer parts) (are_opening parts) both.0) [
-          | inl p ↦ AsOther (no_array atom parts both.1 f) (outside_on atom n parts p w f)
-          | inr o ↦ AsOther (no_array atom parts both.1 f) (opening_on atom n parts o w f)
-        ]
+    others both = elim (or_cases (are_plain outer parts) (are_opening parts) both.0) [
+      | inl p ↦ AsOther (no_array atom parts both.1 f) (outside_on atom n parts p w f)
+      | inr o ↦ AsOther (no_array atom parts both.1 f) (opening_on atom n parts o w f)
+    ]
 
 -- taking a token of a rule alone leaves the stack that taking it of the chosen row leaves
 taken_alone : (atom rule : ℕ) → fits grammar known atom (Symbol.Rule rule ∷ []) ≡ true →
@@ -130,8 +128,7 @@ directive_begun : (atom : ℕ) → fits grammar known atom (Symbol.Rule 2 ∷ []
     Begun atom (taken grammar known atom (Symbol.Rule 2 ∷ [])).left
 directive_begun atom f =
     let parts : List (Symbol Action) = chosen grammar known atom 2 in
-    subst (λ t. Begun atom t.left) (sym (taken_alone atom 2 f))
-    (directive_row_on atom (work known atom parts) parts
+    subst (λ t. Begun atom t.left) (sym (taken_alone atom 2 f)) (directive_row_on atom (work known atom parts) parts
     (chosen_passes (λ rule. rule == 2) is_directive_row directive_keeps atom 2 [] refl f) (omega arith) (fits_alone atom 2 f))
 
 -- behind some tokens of a directive a routine is open exactly where its bracket is
@@ -139,15 +136,13 @@ directive_on : (atom : ℕ) (atoms : List ℕ) → fits grammar known atom (Symb
     is_some (read grammar known (taken grammar known atom (Symbol.Rule 2 ∷ [])).left atoms) ≡ true
     → is_inside (read grammar known (taken grammar known atom (Symbol.Rule 2 ∷ [])).left atoms) ≡
     (not (has arrays atom) && open_behind_all false (atom ∷ atoms))
-directive_on atom atoms f h = by_begun (directive_begun atom f)
-  where
-    left : List (Symbol Action)
-    left = (taken grammar known atom (Symbol.Rule 2 ∷ [])).left
+directive_on atom atoms f h = by_begun (directive_begun atom f) where
+  left : List (Symbol Action)
+  left = (taken grammar known atom (Symbol.Rule 2 ∷ [])).left
 
-    by_begun : Begun atom left → is_inside (read grammar known left atoms) ≡ (not (has arrays atom) && open_behind_all false (atom ∷ atoms))
-    by_begun (AsArray a calm) = follow_calm left atoms calm h ∙ sym (ap (λ b. not b && open_behind_all false (atom ∷ atoms)) a)
-    by_begun (AsOther a s) =
-        follow (open_behind false atom) left atoms s h ∙ sym (ap (λ b. not b && open_behind_all false (atom ∷ atoms)) a)
+  by_begun : Begun atom left → is_inside (read grammar known left atoms) ≡ (not (has arrays atom) && open_behind_all false (atom ∷ atoms))
+  by_begun (AsArray a calm) = follow_calm left atoms calm h ∙ sym (ap (λ b. not b && open_behind_all false (atom ∷ atoms)) a)
+  by_begun (AsOther a s) = follow (open_behind false atom) left atoms s h ∙ sym (ap (λ b. not b && open_behind_all false (atom ∷ atoms)) a)
 
 directive_front : (atoms : List ℕ) → is_some (read grammar known (Symbol.Rule 2 ∷ []) atoms) ≡ true →
     is_inside (read grammar known (Symbol.Rule 2 ∷ []) atoms) ≡ (not (begin_array atoms) && open_behind_all false atoms)
@@ -236,8 +231,7 @@ piece_front (atom ∷ atoms) h =
         of_parts (Symbol.Token 1 ∷ Symbol.Rule 2 ∷ []) is ∙ directive_front atoms (goes_on (Symbol.Token 1 ∷ Symbol.Rule 2 ∷ []) is)
         ∙ sym (ap (λ a. is_bracket_open (a ∷ atoms)) same)
     by_row (Directive p) e =
-        let is = e ∙ p in
-        let f = fits_parts (Symbol.Rule 2 ∷ []) is in
+        let is = e ∙ p in let f = fits_parts (Symbol.Rule 2 ∷ []) is in
         of_parts (Symbol.Rule 2 ∷ []) is ∙ directive_on atom atoms f (goes_on (Symbol.Rule 2 ∷ []) is)
         ∙ ap (λ b. not b && open_behind_all false (atom ∷ atoms)) (or_no (has arrays atom))
         ∙ sym (ap (λ b. not (has arrays atom || (b && begin_array atoms)) && open_behind_all false (atom ∷ atoms)) (no_hash f))

@@ -140,27 +140,24 @@ row_of_all test (y ∷ rows) r (later m) h = row_of_all test rows r m (and_parts
 -- a row of a rule of the set passes the test
 passes : (rules : ℕ → Bool) (test : List (Symbol Action) → Bool) → agree_below (keeps rules test) (λ rule. true) 256 ≡ true
     → (rule : ℕ) → rules rule ≡ true → (r : Row Action) → IsOneOf r (grammar.rows_of rule) → test r.parts ≡ true
-passes rules test all rule is r m = row_of_all test (grammar.rows_of rule) r m (in_rules (rules rule) is kept)
-  where
-    kept : keeps rules test rule ≡ true
-    kept =
-        elim (cases_lt rule 256) [
-          | inl l ↦ agree_below_at (keeps rules test) (λ r. true) 256 rule all l
-          | inr l ↦ past_keeps (rules rule) test (grammar.rows_of rule) (rows_past rule l)
-        ]
+passes rules test all rule is r m = row_of_all test (grammar.rows_of rule) r m (in_rules (rules rule) is kept) where
+  kept : keeps rules test rule ≡ true
+  kept = elim (cases_lt rule 256) [
+    | inl l ↦ agree_below_at (keeps rules test) (λ r. true) 256 rule all l
+    | inr l ↦ past_keeps (rules rule) test (grammar.rows_of rule) (rows_past rule l)
+  ]
 
-    in_rules : (b : Bool) → b ≡ true → (not b || all_rows test (grammar.rows_of rule)) ≡ true → all_rows test (grammar.rows_of rule) ≡ true
-    in_rules true e h = h
-    in_rules false e h = cc
+  in_rules : (b : Bool) → b ≡ true → (not b || all_rows test (grammar.rows_of rule)) ≡ true → all_rows test (grammar.rows_of rule) ≡ true
+  in_rules true e h = h
+  in_rules false e h = cc
 
 -- Lemmas about tokens
 
 pub only_bit : (k atom : ℕ) → has (2 ^ k) atom ≡ true → atom ≡ k
-only_bit k atom h = by_test (atom == k) refl
-  where
-    by_test : (b : Bool) → (atom == k) ≡ b → atom ≡ k
-    by_test true e = eqb-true atom k e
-    by_test false e = absurd (both_ways (has (2 ^ k) atom) (ap (λ b. b == 1) (bit_at-pow_other k atom (eqb-false atom k e))) h)
+only_bit k atom h = by_test (atom == k) refl where
+  by_test : (b : Bool) → (atom == k) ≡ b → atom ≡ k
+  by_test true e = eqb-true atom k e
+  by_test false e = absurd (both_ways (has (2 ^ k) atom) (ap (λ b. b == 1) (bit_at-pow_other k atom (eqb-false atom k e))) h)
 
 of_class : (class other atom k : ℕ) → (class == other) ≡ true → grammar.atoms_of other ≡ 2 ^ k → has (grammar.atoms_of class) atom ≡ true →
     atom ≡ k
@@ -232,12 +229,11 @@ inside_append [] ys h k = cc
 inside_append (Symbol.Token class ∷ xs) ys h k =
     let both = and_parts (has_no_bracket class) (are_inside xs) h in
     and_from (has_no_bracket class) (are_inside (xs ++ ys)) both.0 (inside_append xs ys both.1 k)
-inside_append (Symbol.Act a ∷ xs) ys h k = by_end (ends_routine a) (λ e. closing_append xs ys e k) (λ e. inside_append xs ys e k) h
-  where
-    by_end : (b : Bool) → (are_closing xs ≡ true → are_closing (xs ++ ys) ≡ true) → (are_inside xs ≡ true → are_inside (xs ++ ys) ≡ true)
-        → (if b then are_closing xs else are_inside xs) ≡ true → (if b then are_closing (xs ++ ys) else are_inside (xs ++ ys)) ≡ true
-    by_end true c i e = c e
-    by_end false c i e = i e
+inside_append (Symbol.Act a ∷ xs) ys h k = by_end (ends_routine a) (λ e. closing_append xs ys e k) (λ e. inside_append xs ys e k) h where
+  by_end : (b : Bool) → (are_closing xs ≡ true → are_closing (xs ++ ys) ≡ true) → (are_inside xs ≡ true → are_inside (xs ++ ys) ≡ true)
+      → (if b then are_closing xs else are_inside xs) ≡ true → (if b then are_closing (xs ++ ys) else are_inside (xs ++ ys)) ≡ true
+  by_end true c i e = c e
+  by_end false c i e = i e
 inside_append (Symbol.Rule rule ∷ xs) ys h k =
     let both = and_parts (inner rule) (are_inside xs) h in
     and_from (inner rule) (are_inside (xs ++ ys)) both.0 (inside_append xs ys both.1 k)
@@ -271,12 +267,11 @@ calm_is_out (Symbol.Rule rule ∷ symbols) h = calm_is_out symbols (and_parts (c
 inside_is_in : (symbols : List (Symbol Action)) → are_inside symbols ≡ true → is_in_routine symbols ≡ true
 inside_is_in [] h = cc
 inside_is_in (Symbol.Token class ∷ symbols) h = inside_is_in symbols (and_parts (has_no_bracket class) (are_inside symbols) h).1
-inside_is_in (Symbol.Act a ∷ symbols) h = by_end (ends_routine a) (λ e. inside_is_in symbols e) h
-  where
-    by_end : (b : Bool) → (are_inside symbols ≡ true → is_in_routine symbols ≡ true) →
-        (if b then are_closing symbols else are_inside symbols) ≡ true → (b || is_in_routine symbols) ≡ true
-    by_end true i e = refl
-    by_end false i e = i e
+inside_is_in (Symbol.Act a ∷ symbols) h = by_end (ends_routine a) (λ e. inside_is_in symbols e) h where
+  by_end : (b : Bool) → (are_inside symbols ≡ true → is_in_routine symbols ≡ true) →
+      (if b then are_closing symbols else are_inside symbols) ≡ true → (b || is_in_routine symbols) ≡ true
+  by_end true i e = refl
+  by_end false i e = i e
 inside_is_in (Symbol.Rule rule ∷ symbols) h = inside_is_in symbols (and_parts (inner rule) (are_inside symbols) h).1
 
 pub tells : (is_open : Bool) (symbols : List (Symbol Action)) → stands is_open symbols ≡ true → is_in_routine symbols ≡ is_open
@@ -287,8 +282,7 @@ tells false symbols h = plain_is_out symbols h
 
 pub chosen_passes : (rules : ℕ → Bool) (test : List (Symbol Action) → Bool) → agree_below (keeps rules test) (λ rule. true) 256 ≡ true
     → (atom rule : ℕ) (symbols : List (Symbol Action)) → rules rule ≡ true → fits grammar known atom (Symbol.Rule rule ∷ symbols)
-    ≡ true → test
-    (chosen grammar known atom rule) ≡ true
+    ≡ true → test (chosen grammar known atom rule) ≡ true
 chosen_passes rules test all atom rule symbols is f =
     let c = choice grammar known language_is_decided atom rule symbols f in ap test c.is ∙ passes rules test all rule is c.row c.one
 
@@ -359,8 +353,7 @@ outside_on atom (suc n) (Symbol.Act a ∷ symbols) h w f =
     outside_on atom n symbols (and_parts (not (ends_routine a)) (are_plain outer symbols) h).1 (omega (arith, w)) f
 outside_on atom (suc n) (Symbol.Rule rule ∷ symbols) h w f =
     let both = and_parts (outer rule) (are_plain outer symbols) h in
-    let parts : List (Symbol Action) = chosen grammar known atom rule in
-    let w' = fewer atom rule n symbols w f in
+    let parts : List (Symbol Action) = chosen grammar known atom rule in let w' = fewer atom rule n symbols w f in
     let f' = fits_row atom rule symbols f in
     elim (or_cases (are_plain outer parts) (are_opening parts) (chosen_passes outer are_outer outer_keep atom rule symbols both.0 f)) [
       | inl p ↦ outside_on atom n (parts ++ symbols) (plain_append outer parts symbols p both.1) w' f'

@@ -40,5 +40,4 @@ OpenRoutinesAreBracketed =
 abbrev pub LeftRoutinesAreBracketed : Type 0
 LeftRoutinesAreBracketed =
     (front : List ℕ) (r : Read Action) → read grammar known (Symbol.Rule piece_rule ∷ []) front ≡ Some r → is_in_routine r.left ≡
-    is_bracket_open
-    front
+    is_bracket_open front

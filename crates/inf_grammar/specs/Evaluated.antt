@@ -36,8 +36,7 @@ unfolding known
 empty_past rule l = get_or_past empties rule false (omega (arith, empties_length))
 
 pub language_is_decided : IsDecided grammar known
-language_is_decided rule =
-    elim (cases_lt rule 256) [
-      | inl l ↦ agree_below_at (λ r. is_decided grammar known r) (λ r. true) 256 rule all_decided l
-      | inr l ↦ no_rows grammar known rule (rows_past rule l) (begins_past rule l) (empty_past rule l)
-    ]
+language_is_decided rule = elim (cases_lt rule 256) [
+  | inl l ↦ agree_below_at (λ r. is_decided grammar known r) (λ r. true) 256 rule all_decided l
+  | inr l ↦ no_rows grammar known rule (rows_past rule l) (begins_past rule l) (empty_past rule l)
+]

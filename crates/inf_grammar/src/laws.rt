@@ -8,9 +8,8 @@ pub fn language()
     ensures { IsDecided grammar known }
 {}
 
-/// Shows that every source is a sequence of pieces, each a directive or a semicolon, and of bad pieces: behind a bad
-/// token reading goes on after the next semicolon, and where a routine is open after the first semicolon behind the
-/// next `]`, or at the end.
+/// Shows that every source is a sequence of pieces, each a directive or a semicolon, and of bad pieces: behind a bad token reading goes on
+/// after the next semicolon, and where a routine is open after the first semicolon behind the next `]`, or at the end.
 pub fn source_pieces()
     ensures { SourcesHavePieces }
 {}

@@ -35,8 +35,7 @@ impl Machine {
         }
     }
 
-    /// Lets a text of `rule` be read next. Where memory runs out, returns an error, and the rest to be read is as it
-    /// was.
+    /// Lets a text of `rule` be read next. Where memory runs out, returns an error, and the rest to be read is as it was.
     pub fn start(&mut self, rule: u8) -> Result<(), AllocError>
         ensures ok { OnOk result (self.new ≡ Symbol.Rule rule ∷ self.old) }
         ensures err { OnErr result (self.new ≡ self.old) }
@@ -86,8 +85,7 @@ impl Machine {
         self.machine.fits(atom)
     }
 
-    /// Takes a token that fits. Appends the actions on the way to it to `actions`, in order; the token is taken behind
-    /// them.
+    /// Takes a token that fits. Appends the actions on the way to it to `actions`, in order; the token is taken behind them.
     ///
     /// Where memory runs out, returns an error, and the rest to be read and the actions are as they were.
     pub fn take(&mut self, atom: u8, actions: &mut Vec<Action>) -> Result<(), AllocError>
@@ -130,7 +128,6 @@ fn is_in_routine(stack: &[Symbol<Action>]) -> bool
     false
 }
 
-/// Returns the number of compound statements that are over on a stack, the top last, whatever comes next.
 fn closings(stack: &[Symbol<Action>]) -> usize
     ensures { result ≡ closings (reverse stack.now) }
 {

@@ -50,8 +50,7 @@ impl Rest {
         }
     }
 
-    /// Lets a text of `rule` be read next. Where memory runs out, returns an error, and the rest to be read is as it
-    /// was.
+    /// Lets a text of `rule` be read next. Where memory runs out, returns an error, and the rest to be read is as it was.
     pub fn start(&mut self, rule: u8) -> Result<(), AllocError>
         ensures ok { OnOk result (self.new ≡ Symbol.Rule rule ∷ self.old) }
         ensures err { OnErr result (self.new ≡ self.old) }

@@ -101,7 +101,6 @@ fn parts_at(span: Span) -> &'static [Symbol<Action>]
     }
 }
 
-/// Returns the place of the parts of the first row that `atom` begins, or else `other`.
 fn found(rows: &[Row], other: Span, atom: u8) -> Span
     ensures { result ≡ found atom other rows.now }
 {
@@ -143,8 +142,6 @@ pub(crate) fn can_be_empty(rule: u8) -> bool
     }
 }
 
-/// Returns the place of the parts that are put in place of a rule before `atom`. Looks at the rows only where `atom`
-/// begins the rule.
 fn span_for(rule: &Rule, atom: u8) -> Span
     ensures { result ≡ span_for rule.now atom }
 {

@@ -8,8 +8,7 @@ use Rattle.inf_letters.specs.{declared.letters.Letters.Letters, declared.letters
 
 -- the choices of no letters
 abbrev pub none_spoken : Letters
-none_spoken =
-    record { set = None; scale = None; warns = None; abbreviates = None; counts = None; ignores = None; debugs = None }
+none_spoken = record { set = None; scale = None; warns = None; abbreviates = None; counts = None; ignores = None; debugs = None }
 
 -- the choice of a letter by itself: of `e`, `s`, `w`, `i` and `D`
 abbrev pub alone : ℕ → Option Said

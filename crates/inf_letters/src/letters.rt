@@ -39,7 +39,6 @@ pub(crate) enum Said {
     Nothing,
 }
 
-/// Returns the choice of a letter by itself: none but for `e`, `s`, `w`, `i` and `D`.
 fn alone(letter: u8) -> Option<Said>
     ensures { result ≡ alone letter }
 {
@@ -116,8 +115,7 @@ impl Letters {
         self
     }
 
-    /// Returns these choices with those of `letters` behind them, read from left to right: the last choice on a matter
-    /// holds.
+    /// Returns these choices with those of `letters` behind them, read from left to right: the last choice on a matter holds.
     ///
     /// `e`, `s`, `w`, `i` and `D` come alone, or behind a `~` that turns them off; `~S` and `E1` choose nothing; `v5`
     /// and `v8` choose the version, `C0` and `C1` the character set. Upper and lower case are different letters. `None`

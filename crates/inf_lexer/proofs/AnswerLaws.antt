@@ -7,8 +7,7 @@ use Rattle.inf_lexer.specs.AnswerLaws.{Answer, AreAnswers, TokensAreTheSources, 
 answered : (set : CharSet) (limit : ℕ) (lines : Lines) (rest : List ℕ) (answers : List Answer) → AreAnswers set limit lines rest answers →
     map told answers ≡ first_tokens (length answers) set limit lines rest
 answered set limit lines rest [] are = refl
-answered set limit lines rest (a ∷ answers) are =
-    ap (λ rs. told a ∷ rs) (answered set limit a.reader.lines a.to_come answers are.1)
+answered set limit lines rest (a ∷ answers) are = ap (λ rs. told a ∷ rs) (answered set limit a.reader.lines a.to_come answers are.1)
     ∙ ap (λ (r : Read). r ∷ first_tokens (length answers) set limit r.lines r.rest) are.0
 
 pub tokens_are_the_sources : TokensAreTheSources

@@ -81,14 +81,7 @@ pub attempt_failed : {S : Type 0} {f : Files S} {old new : S} {asked name : List
 attempt_failed {f = f} {old = old} {new = new} {asked = asked} {name = name} {before = before} {after = after} {found = found} fault is
     named opens rose faults depth counts opened kept same =
     subst (λ x. Attempts f old new (name ∷ []) before after (Err (fault_of x))) is (record {
-      tries = record {
-        sources = kept.0;
-        honesty = kept.1;
-        depth = depth;
-        counts = counts;
-        faults = faults.0;
-        calm = calm found faults.1;
-      };
+      tries = record { sources = kept.0; honesty = kept.1; depth = depth; counts = counts; faults = faults.0; calm = calm found faults.1 };
       opened = opens_same (ap (λ (n : Nest). n.names) same) opened;
       entered = tt;
       same = same;
@@ -121,22 +114,19 @@ attempt_failed {f = f} {old = old} {new = new} {asked = asked} {name = name} {be
 -- the names behind some of which none is there
 first_after : (s : Sources) (xs ys : List (List ℕ)) → first_there s xs ≡ None → first_there s (xs ++ ys) ≡ first_there s ys
 first_after s [] ys none = refl
-first_after s (x ∷ xs) ys none = by (is_some (s x)) none (λ rest. first_after s xs ys rest)
-  where
-    by : (b : Bool) → cond b (Some x) (first_there s xs) ≡ None
-        → (first_there s xs ≡ None → first_there s (xs ++ ys) ≡ first_there s ys)
-        → cond b (Some x) (first_there s (xs ++ ys)) ≡ first_there s ys
-    by true e rest = cc
-    by false e rest = rest e
+first_after s (x ∷ xs) ys none = by (is_some (s x)) none (λ rest. first_after s xs ys rest) where
+  by : (b : Bool) → cond b (Some x) (first_there s xs) ≡ None → (first_there s xs ≡ None → first_there s (xs ++ ys) ≡ first_there s ys)
+      → cond b (Some x) (first_there s (xs ++ ys)) ≡ first_there s ys
+  by true e rest = cc
+  by false e rest = rest e
 
 -- a name that is there comes before the names behind it
 first_here : (s : Sources) (name found : List ℕ) (ys : List (List ℕ)) → first_there s (name ∷ []) ≡ Some found
     → first_there s (name ∷ ys) ≡ Some found
-first_here s name found ys e = by (is_some (s name)) e
-  where
-    by : (b : Bool) → cond b (Some name) None ≡ Some found → cond b (Some name) (first_there s ys) ≡ Some found
-    by true e = e
-    by false e = cc
+first_here s name found ys e = by (is_some (s name)) e where
+  by : (b : Bool) → cond b (Some name) None ≡ Some found → cond b (Some name) (first_there s ys) ≡ Some found
+  by true e = e
+  by false e = cc
 
 seam : (xs ys : List (List ℕ)) (name : List ℕ) → slice_get (xs ++ name ∷ ys) (length xs) ≡ Some name
 seam [] ys name = refl
@@ -175,73 +165,70 @@ attempt_then {f = f} {a = a} {b = b} {c = c} {xs = xs} {ys = ys} {name = name} {
   leaves = λ h. leaves h answer last (subst (λ s. Leaves s v.names (name ∷ []) (f.openings b) (f.openings c) answer) p.tries.sources
       (q.leaves (p.tries.honesty ∙ h)));
   cause = λ device. why (q.cause device);
-}
-  where
-    first : (h : IsTrue (f.is_honest a)) → (found : List ℕ) → first_there (f.sources a) (name ∷ []) ≡ Some found
-        → first_there (f.sources a) (xs ++ name ∷ ys) ≡ Some found
-    first h found is = first_after (f.sources a) xs (name ∷ ys) (p.leaves h).0 ∙ first_here (f.sources a) name found ys is
+} where
+  first : (h : IsTrue (f.is_honest a)) → (found : List ℕ) → first_there (f.sources a) (name ∷ []) ≡ Some found
+      → first_there (f.sources a) (xs ++ name ∷ ys) ≡ Some found
+  first h found is = first_after (f.sources a) xs (name ∷ ys) (p.leaves h).0 ∙ first_here (f.sources a) name found ys is
 
-    enters : (r : Result Reader EnterFault)
-        → IfOk r (Enters (f.sources b) (f.is_honest b) (name ∷ []) (f.openings b) (f.openings c) v w)
-        → IfOk r (Enters (f.sources a) (f.is_honest a) (xs ++ name ∷ ys) (f.openings a) (f.openings c) u w)
-    enters (Ok lexer) e = record {
-      name = e.name;
-      place = length xs;
-      is_named = seam xs ys name ∙ ap Some (sym (only name e.name e.place e.is_named));
-      is_entered = subst (λ (n : Nest). IsEntered e.name n w lexer) p.same e.is_entered;
-      has_number = subst (λ (n : Nest). number_of e.name n.names < 65535) p.same e.has_number;
-      is_first = λ h. first h e.name
-          (subst (λ (s : Sources). first_there s (name ∷ []) ≡ Some e.name) p.tries.sources (e.is_first (p.tries.honesty ∙ h)));
-      is_opened = λ h. e.is_opened (p.tries.honesty ∙ h) ∙ ap (with_opened e.name) (p.leaves h).1;
-    }
-    enters (Err fault) e = tt
+  enters : (r : Result Reader EnterFault) → IfOk r (Enters (f.sources b) (f.is_honest b) (name ∷ []) (f.openings b) (f.openings c) v w)
+      → IfOk r (Enters (f.sources a) (f.is_honest a) (xs ++ name ∷ ys) (f.openings a) (f.openings c) u w)
+  enters (Ok lexer) e = record {
+    name = e.name;
+    place = length xs;
+    is_named = seam xs ys name ∙ ap Some (sym (only name e.name e.place e.is_named));
+    is_entered = subst (λ (n : Nest). IsEntered e.name n w lexer) p.same e.is_entered;
+    has_number = subst (λ (n : Nest). number_of e.name n.names < 65535) p.same e.has_number;
+    is_first = λ h. first h e.name
+        (subst (λ (s : Sources). first_there s (name ∷ []) ≡ Some e.name) p.tries.sources (e.is_first (p.tries.honesty ∙ h)));
+    is_opened = λ h. e.is_opened (p.tries.honesty ∙ h) ∙ ap (with_opened e.name) (p.leaves h).1;
+  }
+  enters (Err fault) e = tt
 
-    back : (r : Result Reader EnterFault) → OnErr r (w ≡ v) → OnErr r (w ≡ u)
-    back (Ok lexer) e = tt
-    back (Err fault) e = e ∙ p.same
+  back : (r : Result Reader EnterFault) → OnErr r (w ≡ v) → OnErr r (w ≡ u)
+  back (Ok lexer) e = tt
+  back (Err fault) e = e ∙ p.same
 
-    closed : (h : IsTrue (f.is_honest a)) → ClosedAgain (f.sources a) v.names (name ∷ []) (f.openings b) (f.openings c)
-        → ClosedAgain (f.sources a) u.names (xs ++ name ∷ ys) (f.openings a) (f.openings c)
-    closed h again = record {
-      name = again.name;
-      is_first = first h again.name again.is_first;
-      is_too_many = subst (λ (n : Nest). 65535 ≤ number_of again.name n.names) p.same again.is_too_many;
-      is_closed = again.is_closed ∙ ap (with_closed again.name) (p.leaves h).1;
-    }
+  closed : (h : IsTrue (f.is_honest a)) → ClosedAgain (f.sources a) v.names (name ∷ []) (f.openings b) (f.openings c)
+      → ClosedAgain (f.sources a) u.names (xs ++ name ∷ ys) (f.openings a) (f.openings c)
+  closed h again = record {
+    name = again.name;
+    is_first = first h again.name again.is_first;
+    is_too_many = subst (λ (n : Nest). 65535 ≤ number_of again.name n.names) p.same again.is_too_many;
+    is_closed = again.is_closed ∙ ap (with_closed again.name) (p.leaves h).1;
+  }
 
-    leaves : (h : IsTrue (f.is_honest a)) (r : Result Reader EnterFault) → (is_absent r ≡ true → ys ≡ [])
-        → Leaves (f.sources a) v.names (name ∷ []) (f.openings b) (f.openings c) r
-        → Leaves (f.sources a) u.names (xs ++ name ∷ ys) (f.openings a) (f.openings c) r
-    leaves h (Ok lexer) last l = tt
-    leaves h (Err EnterFault.Absent) last l = (
-      first_after (f.sources a) xs (name ∷ ys) (p.leaves h).0 ∙ ap (λ ns. first_there (f.sources a) (name ∷ ns)) (last refl) ∙ l.0,
-      l.1 ∙ (p.leaves h).1,
-    )
-    leaves h (Err EnterFault.Device) last (inl same) = inl (same ∙ (p.leaves h).1)
-    leaves h (Err EnterFault.Device) last (inr again) = inr (closed h again)
-    leaves h (Err EnterFault.Memory) last l = l ∙ (p.leaves h).1
-    leaves h (Err EnterFault.BadName) last l = l ∙ (p.leaves h).1
-    leaves h (Err EnterFault.TooDeep) last l = l ∙ (p.leaves h).1
+  leaves : (h : IsTrue (f.is_honest a)) (r : Result Reader EnterFault) → (is_absent r ≡ true → ys ≡ [])
+      → Leaves (f.sources a) v.names (name ∷ []) (f.openings b) (f.openings c) r
+      → Leaves (f.sources a) u.names (xs ++ name ∷ ys) (f.openings a) (f.openings c) r
+  leaves h (Ok lexer) last l = tt
+  leaves h (Err EnterFault.Absent) last l = (
+    first_after (f.sources a) xs (name ∷ ys) (p.leaves h).0 ∙ ap (λ ns. first_there (f.sources a) (name ∷ ns)) (last refl) ∙ l.0,
+    l.1 ∙ (p.leaves h).1,
+  )
+  leaves h (Err EnterFault.Device) last (inl same) = inl (same ∙ (p.leaves h).1)
+  leaves h (Err EnterFault.Device) last (inr again) = inr (closed h again)
+  leaves h (Err EnterFault.Memory) last l = l ∙ (p.leaves h).1
+  leaves h (Err EnterFault.BadName) last l = l ∙ (p.leaves h).1
+  leaves h (Err EnterFault.TooDeep) last l = l ∙ (p.leaves h).1
 
-    why : Rose (f.faults b) (f.faults c)
-        ⊎ WasTooMany (f.sources b) (f.is_honest b) v.names (name ∷ []) (f.openings b) (f.openings c) (f.opened c)
-        → Rose (f.faults a) (f.faults c)
-        ⊎ WasTooMany (f.sources a) (f.is_honest a) u.names (xs ++ name ∷ ys) (f.openings a) (f.openings c) (f.opened c)
-    why (inl rose) = inl (subst (λ n. Rose n (f.faults c)) p.tries.calm rose)
-    why (inr many) = inr (record {
-      is_named = too_many_in u.names xs ys name (subst (λ (n : Nest). has_one_too_many n.names (name ∷ []) ≡ true) p.same many.is_named);
-      name = many.name;
-      is_too_many = subst (λ (n : Nest). 65535 ≤ number_of many.name n.names) p.same many.is_too_many;
-      is_opened = many.is_opened;
-      is_closed = λ h. closed h (subst (λ s. ClosedAgain s v.names (name ∷ []) (f.openings b) (f.openings c)) p.tries.sources
-          (many.is_closed (p.tries.honesty ∙ h)));
-    })
+  why : Rose (f.faults b) (f.faults c)
+      ⊎ WasTooMany (f.sources b) (f.is_honest b) v.names (name ∷ []) (f.openings b) (f.openings c) (f.opened c)
+      → Rose (f.faults a) (f.faults c)
+      ⊎ WasTooMany (f.sources a) (f.is_honest a) u.names (xs ++ name ∷ ys) (f.openings a) (f.openings c) (f.opened c)
+  why (inl rose) = inl (subst (λ n. Rose n (f.faults c)) p.tries.calm rose)
+  why (inr many) = inr (record {
+    is_named = too_many_in u.names xs ys name (subst (λ (n : Nest). has_one_too_many n.names (name ∷ []) ≡ true) p.same many.is_named);
+    name = many.name;
+    is_too_many = subst (λ (n : Nest). 65535 ≤ number_of many.name n.names) p.same many.is_too_many;
+    is_opened = many.is_opened;
+    is_closed = λ h. closed h (subst (λ s. ClosedAgain s v.names (name ∷ []) (f.openings b) (f.openings c)) p.tries.sources
+        (many.is_closed (p.tries.honesty ∙ h)));
+  })
 
 -- the names may be given by equal ones
 pub attempt_as : {S : Type 0} {f : Files S} {a b : S} {names others : List (List ℕ)} {u v : Nest} {answer : Result Reader EnterFault}
     → others ≡ names → Attempts f a b names u v answer → Attempts f a b others u v answer
-attempt_as {f = f} {a = a} {b = b} {u = u} {v = v} {answer = answer} same t =
-    subst⁻¹ (λ names. Attempts f a b names u v answer) same t
+attempt_as {f = f} {a = a} {b = b} {u = u} {v = v} {answer = answer} same t = subst⁻¹ (λ names. Attempts f a b names u v answer) same t
 
 -- Lemmas about the openings of one name
 
@@ -251,8 +238,7 @@ front_same [] [] x y e = refl
 front_same [] (b ∷ ys) x y e = absurd (omega (arith, ap length e, length-append ys (y ∷ [])))
 front_same (a ∷ xs) [] x y e = absurd (omega (arith, ap length e, length-append xs (x ∷ [])))
 front_same (a ∷ xs) (b ∷ ys) x y e =
-    let head : a ≡ b = cc in
-    let rest : xs ++ x ∷ [] ≡ ys ++ y ∷ [] = cc in
+    let head : a ≡ b = cc in let rest : xs ++ x ∷ [] ≡ ys ++ y ∷ [] = cc in
     ap (λ n. n ∷ xs) head ∙ ap (λ l. b ∷ l) (front_same xs ys x y rest)
 
 closes_opened : (name : List ℕ) (old mid new : Openings) → mid ≡ with_opened name old → Closes mid new → new ≡ with_closed name old
@@ -263,11 +249,10 @@ closes_opened name old mid new opens closes =
     (sym closes.innermost ∙ ap (λ (o : Openings). o.open_places) opens))
 
 there_alone : (s : Sources) (name : List ℕ) → IsSome (s name) → first_there s (name ∷ []) ≡ Some name
-there_alone s name there = go (s name) there
-  where
-    go : (o : Option (List ℕ)) → IsSome o → cond (is_some o) (Some name) None ≡ Some name
-    go None there = cc
-    go (Some bytes) there = refl
+there_alone s name there = go (s name) there where
+  go : (o : Option (List ℕ)) → IsSome o → cond (is_some o) (Some name) None ≡ Some name
+  go None there = cc
+  go (Some bytes) there = refl
 
 too_many_alone : (known : List (List ℕ)) (name : List ℕ) → 65535 ≤ number_of name known → has_one_too_many known (name ∷ []) ≡ true
 too_many_alone known name most = or_left (nat_le 65535 (number_of name known)) false (le-leb 65535 (number_of name known) most)
@@ -402,8 +387,7 @@ names_to f xs i d less is =
 
 pub names_at : {A : Type 0} (f : A → List ℕ) (xs : List A) (i : ℕ) (d : A) {name : List ℕ} → i < length xs → f (get_or xs i d) ≡ name
     → map f xs ≡ map f (take i xs) ++ name ∷ map f (drop (suc i) xs)
-names_at f xs i d less is =
-    ap (map f) (sym (take-append-drop i xs) ∙ ap (λ ys. take i xs ++ ys) (drop-cons xs i d less))
+names_at f xs i d less is = ap (map f) (sym (take-append-drop i xs) ∙ ap (λ ys. take i xs ++ ys) (drop-cons xs i d less))
     ∙ map-append f (take i xs) (get_or xs i d ∷ drop (suc i) xs) ∙ ap (λ n. map f (take i xs) ++ n ∷ map f (drop (suc i) xs)) is
 
 -- no file has the name, either

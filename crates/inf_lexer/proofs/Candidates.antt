@@ -15,8 +15,7 @@ fit_is true x y e = cc
 fit_is false x y e = cc
 
 -- a name that is fit
-pub can_be : (b : Bool) (x y text : List ℕ) → Some x ≡ cond b (Some y) None → b ≡ is_fit y → y ≡ behind_sign text
-    → can_name text ≡ true
+pub can_be : (b : Bool) (x y text : List ℕ) → Some x ≡ cond b (Some y) None → b ≡ is_fit y → y ≡ behind_sign text → can_name text ≡ true
 can_be true x y text e is name = ap is_fit (sym name) ∙ sym is
 can_be false x y text e is name = cc
 
@@ -26,14 +25,12 @@ listed [] file = refl
 listed (d ∷ directories) file = ap (λ names. name_in d.now file ∷ names) (listed directories file)
 
 pub names_listed : (directories : List (Bor (List ℕ))) (including text file : List ℕ) → has_sign text ≡ false → file ≡ behind_sign text →
-    (length directories == 0) ≡ false
-    → map (λ d. name_in d.now file) directories ≡ candidates (map (λ d. d.now) directories) including text
+    (length directories == 0) ≡ false → map (λ d. name_in d.now file) directories ≡ candidates (map (λ d. d.now) directories) including text
 names_listed [] including text file no_sign is some = cc
 names_listed (d ∷ directories) including text file no_sign is some =
     let names : List (List ℕ) = map (λ d. d.now) (d ∷ directories) in
     let known : length names == 0 ≡ false = ne_eqb (length names) 0 (λ e. omega (arith, e)) in
-    listed (d ∷ directories) file
-    ∙ ap (λ f. map (λ directory. name_in directory f) names) is
+    listed (d ∷ directories) file ∙ ap (λ f. map (λ directory. name_in directory f) names) is
     ∙ sym (cond-false (length names == 0) (name_in [] (behind_sign text) ∷ [])
     (map (λ directory. name_in directory (behind_sign text)) names) known)
     ∙ sym (cond-false (has_sign text) (name_beside including (behind_sign text) ∷ []) (names_in names (behind_sign text)) no_sign)

@@ -7,8 +7,7 @@ use Rattle.inf_lexer.specs.Counted.{CountsOn}
 
 -- nothing was read
 pub counts_same : {old new : Counts} {before after : ℕ} → new ≡ old → after ≡ before → CountsOn old new before after
-counts_same {old = old} {before = before} {after = after} same none =
-    subst (λ (c : Counts). CountsOn old c before after) (sym same)
+counts_same {old = old} {before = before} {after = after} same none = subst (λ (c : Counts). CountsOn old c before after) (sym same)
     (subst (λ (n : ℕ). CountsOn old old before n) (sym none) (record { too_long = omega arith; stays = λ outer base counted. counted }))
 
 -- a number that is counted up in a case, or not, is at least as large as before

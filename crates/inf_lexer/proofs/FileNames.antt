@@ -1,23 +1,15 @@
 -- Names of files: ASCII, and the directory up to the last `/`.
 use Rattle.std.proofs.{lemmas.List.take-append-drop, lemmas.Str.Pattern.NoCharPasses-char, lemmas.Str.Pattern.drop_at_char}
-use Rattle.std.proofs.Common.{◌≡◌, ◌≢◌, ℕ, zero, suc, ◌<◌, ◌≤◌, ◌==◌, nat_lt, List, [], ◌∷◌, ◌++◌, length, get_or, true, false, cond, drop}
+use Rattle.std.proofs.Common.{◌≡◌, ◌≢◌, ℕ, suc, ◌<◌, ◌==◌, nat_lt, List, [], ◌∷◌, ◌++◌, length, get_or, true, false, cond, drop}
 use Rattle.std.proofs.Common.{arith, lit<, ap, refl, sym, ◌∙◌}
-use Rattle.std.proofs.lemmas.Bool.{and_from, and_left, and_right, lt-ltb, le-ltb, or_right, or_from, ne_eqb}
-use Rattle.std.specs.{List.list_all, Str.IsAscii, Str.IsNotAscii, Str.NoCharPasses, Str.Pattern.RFindsChar, Str.Pattern.SplitsAroundMatch}
+use Rattle.std.proofs.lemmas.Bool.{and_from, lt-ltb, or_right, or_from, ne_eqb}
+use Rattle.std.specs.{List.list_all, Str.IsAscii, Str.NoCharPasses, Str.Pattern.RFindsChar, Str.Pattern.SplitsAroundMatch}
 use Rattle.inf_lexer.specs.Names.{has_slash, directory_of}
 
 pub all_ascii : (bs : List ℕ) → IsAscii bs → list_all (λ b. nat_lt b 128) bs ≡ true
 all_ascii [] each = refl
 all_ascii (b ∷ bs) each =
     and_from (nat_lt b 128) (list_all (λ x. nat_lt x 128) bs) (lt-ltb b 128 (each 0)) (all_ascii bs (λ i. each (suc i)))
-
-not_ascii : (bs : List ℕ) (i : ℕ) → 128 ≤ get_or bs i 0 → list_all (λ b. nat_lt b 128) bs ≡ false
-not_ascii [] i large = absurd (omega arith)
-not_ascii (b ∷ bs) zero large = and_left (nat_lt b 128) (list_all (λ x. nat_lt x 128) bs) (le-ltb b 128 large)
-not_ascii (b ∷ bs) (suc i) large = and_right (nat_lt b 128) (list_all (λ x. nat_lt x 128) bs) (not_ascii bs i large)
-
-pub not_all_ascii : (bs : List ℕ) → IsNotAscii bs → list_all (λ b. nat_lt b 128) bs ≡ false
-not_all_ascii bs (i, large) = not_ascii bs i large
 
 -- a name with a `/` behind its front has one
 slash_behind : (front back : List ℕ) → has_slash (front ++ 47 ∷ back) ≡ true

@@ -11,8 +11,7 @@ use Rattle.inf_lexer.specs.Unread.{Gave, innermost, innermost_place, unread, unr
 
 -- a source gave no bytes
 pub gave_nothing : {s : Sources} {o : Openings} → Gave s o o []
-gave_nothing =
-    record { next = refl; given = sym (append-nil _); name = refl; places = refl; count = refl; others = λ i other. refl }
+gave_nothing = record { next = refl; given = sym (append-nil _); name = refl; places = refl; count = refl; others = λ i other. refl }
 
 -- a source gave some bytes, and then more
 pub gave_more : {s : Sources} {old now new : Openings} {bytes more : List ℕ} → Gave s old now bytes → Gave s now new more
@@ -68,13 +67,11 @@ module _ {s : Sources} {old new : Openings} {bytes : List ℕ} (g : GivesInnermo
   was = ap (λ n. get_or old.all n (opened [])) here ∙ get_or_from_slice_get old.all g.place g.before (opened []) g.was_opened
 
   now_is : innermost new ≡ after_bytes g.before bytes
-  now_is =
-      ap (λ n. get_or new.all n (opened [])) (ap (λ (places : List ℕ). get_or places (length places - 1) 0) places_are ∙ here)
+  now_is = ap (λ n. get_or new.all n (opened [])) (ap (λ (places : List ℕ). get_or places (length places - 1) 0) places_are ∙ here)
       ∙ ap (λ os. get_or os g.place (opened [])) all_are ∙ set_at old.all g.place g.before (after_bytes g.before bytes) g.was_opened
 
   rest_is : unread s new ≡ g.gives.rest
-  rest_is =
-      ap (λ o. unread_of s o) now_is
+  rest_is = ap (λ o. unread_of s o) now_is
       ∙ ap (λ n. drop (length (after_bytes g.before bytes).given) (unwrap_or (s n) [])) (after_name g.before bytes)
       ∙ ap (λ given. drop (length given) (unwrap_or (s g.before.name) [])) (after_given g.before bytes)
       ∙ ap (λ w. drop (length (g.before.given ++ bytes)) w) (ap (λ o. unwrap_or o []) g.gives.is_source ∙ g.gives.in_order)
@@ -83,9 +80,7 @@ module _ {s : Sources} {old new : Openings} {bytes : List ℕ} (g : GivesInnermo
   -- the bytes that a reading of the innermost source gives
   pub gave_of : Gave s old new bytes
   gave_of = record {
-    next =
-        ap (λ o. unread_of s o) was
-        ∙ ap (λ w. drop (length g.before.given) w)
+    next = ap (λ o. unread_of s o) was ∙ ap (λ w. drop (length g.before.given) w)
         (ap (λ o. unwrap_or o []) g.gives.is_source ∙ g.gives.in_order ∙ append_assoc g.before.given bytes g.gives.rest)
         ∙ drop-append_seam g.before.given (bytes ++ g.gives.rest) ∙ ap (λ r. bytes ++ r) (sym rest_is);
     given = ap (λ (o : Opening). o.given) now_is ∙ after_given g.before bytes ∙ ap (λ (o : Opening). o.given ++ bytes) (sym was);
@@ -116,8 +111,7 @@ pub window_behind : (n next end : ℕ) (buffer : List ℕ) → next + n ≤ end 
     take (end - (next + n)) (drop (next + n) buffer) ≡ drop n (take (end - next) (drop next buffer))
 window_behind n next end buffer some =
     let size : end - next ≡ n + (end - (next + n)) = omega arith in
-    ap (λ xs. take (end - (next + n)) xs) (sym (drop-drop n next buffer))
-    ∙ sym (drop-take n (end - (next + n)) (drop next buffer))
+    ap (λ xs. take (end - (next + n)) xs) (sym (drop-drop n next buffer)) ∙ sym (drop-take n (end - (next + n)) (drop next buffer))
     ∙ ap (λ m. drop n (take m (drop next buffer))) (sym size)
 
 -- the first bytes of those that a reading wrote to, in a window of which nothing was taken

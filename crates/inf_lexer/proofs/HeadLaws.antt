@@ -124,8 +124,7 @@ turned set limit x b seen bs =
 moved : (set : CharSet) (limit : ℕ) (p next : HeadPlace) (lines : Lines) (b : ℕ) (bs : List ℕ)
     → step_of set (state_at p) b ≡ ByteStep.Skip (state_at next)
     → find set limit (state_at next) (begun (past b lines)) bs ≡ find set limit (state_at p) (begun lines) (b ∷ bs)
-moved set limit p next lines b bs e =
-    sym (ap (λ x. turned set limit x b (marked (state_at p) (begun lines)) bs) e
+moved set limit p next lines b bs e = sym (ap (λ x. turned set limit x b (marked (state_at p) (begun lines)) bs) e
     ∙ free set limit next (marked (state_at p) (begun lines)).first (past b lines) bs)
 
 stopped : (set : CharSet) (limit : ℕ) (p : HeadPlace) (lines : Lines) (b : ℕ) (bs : List ℕ)
@@ -145,8 +144,7 @@ abbrev token_behind : CharSet → ℕ → HeadFound → Found
 token_behind set limit f = find set limit (state_at (place_behind f.place)) (begun f.lines) f.rest
 
 by_step : (set : CharSet) (limit : ℕ) (s : HeadStep) (p : HeadPlace) (word : List ℕ) (lines : Lines) (b : ℕ) (bs : List ℕ)
-    → Passes set p b s
-    → ((q : HeadPlace) (w : List ℕ) → token_behind set limit (head_found q w (past b lines) bs)
+    → Passes set p b s → ((q : HeadPlace) (w : List ℕ) → token_behind set limit (head_found q w (past b lines) bs)
     ≡ find set limit (state_at q) (begun (past b lines)) bs)
     → token_behind set limit (after_step s p word lines b bs) ≡ find set limit (state_at p) (begun lines) (b ∷ bs)
 by_step set limit (HeadStep.Pass next) p word lines b bs e rec = rec next word ∙ moved set limit p next lines b bs e
@@ -177,29 +175,25 @@ FindsSame set limit n = (p : HeadPlace) (lines : Lines) (bytes : List ℕ) → l
     ≡ find set limit (state_at p) (begun lines) bytes
 
 behind_next : (set : CharSet) (limit n : ℕ) → FindsSame set limit n → FindsSame set limit (suc n)
-behind_next set limit n same p lines bytes less none = by r.is_word refl
-  where
-    r : HeadRead
-    r = next_head_word p lines bytes
+behind_next set limit n same p lines bytes less none = by r.is_word refl where
+  r : HeadRead
+  r = next_head_word p lines bytes
 
-    goes_on : r.place ≡ goes_on_at r.is_word
-    goes_on = goes_on_is (head_found p [] lines bytes).place
+  goes_on : r.place ≡ goes_on_at r.is_word
+  goes_on = goes_on_is (head_found p [] lines bytes).place
 
-    tail : WholeHead
-    tail = head_within n r.place r.lines r.rest
+  tail : WholeHead
+  tail = head_within n r.place r.lines r.rest
 
-    chosen : Bool → WholeHead
-    chosen b = cond b (with_head_word r.word tail) (record { words = []; lines = r.lines; rest = r.rest })
+  chosen : Bool → WholeHead
+  chosen b = cond b (with_head_word r.word tail) (record { words = []; lines = r.lines; rest = r.rest })
 
-    by : (b : Bool) → r.is_word ≡ b → find set limit State.Gap (begun (chosen b).lines) (chosen b).rest
-        ≡ find set limit (state_at p) (begun lines) bytes
-    by true e =
-        same r.place r.lines r.rest (omega (arith, less, words_take p [] lines bytes none e))
-        (ap is_word goes_on ∙ goes_on_free r.is_word)
-        ∙ heads_have_no_tokens set limit p lines bytes
-    by false e =
-        sym (ap (λ (q : HeadPlace). find set limit (state_at q) (begun r.lines) r.rest) (goes_on ∙ ap goes_on_at e))
-        ∙ heads_have_no_tokens set limit p lines bytes
+  by : (b : Bool) → r.is_word ≡ b → find set limit State.Gap (begun (chosen b).lines) (chosen b).rest
+      ≡ find set limit (state_at p) (begun lines) bytes
+  by true e = same r.place r.lines r.rest (omega (arith, less, words_take p [] lines bytes none e))
+      (ap is_word goes_on ∙ goes_on_free r.is_word) ∙ heads_have_no_tokens set limit p lines bytes
+  by false e = sym (ap (λ (q : HeadPlace). find set limit (state_at q) (begun r.lines) r.rest) (goes_on ∙ ap goes_on_at e))
+      ∙ heads_have_no_tokens set limit p lines bytes
 
 within_on : (set : CharSet) (limit n : ℕ) → FindsSame set limit n
 within_on set limit zero p lines bytes less none = absurd (omega (arith, less))

@@ -35,9 +35,7 @@ comment_leads : (b : ℕ) → leads_behind (comment_step b) ≡ false
 comment_leads b = of_choice (is_line_end b) HeadStep.Stop (HeadStep.Pass HeadPlace.Comment) refl refl
 
 gap_leads : (b : ℕ) → leads_behind (gap_step b) ≡ false
-gap_leads b =
-    of_choice (is_cut b) (HeadStep.Pass HeadPlace.Gap) _ refl
-    (of_choice (b == 13) (HeadStep.Pass HeadPlace.Return) _ refl
+gap_leads b = of_choice (is_cut b) (HeadStep.Pass HeadPlace.Gap) _ refl (of_choice (b == 13) (HeadStep.Pass HeadPlace.Return) _ refl
     (of_choice (b == 10) (HeadStep.Pass HeadPlace.Line) HeadStep.Keep refl refl))
 
 leads_on : (p : HeadPlace) (b : ℕ) → leads_behind (head_step p b) ≡ false
@@ -78,8 +76,7 @@ step_within HeadStep.Stop p word lines b bs h = omega arith
 pub found_within : (p : HeadPlace) (word : List ℕ) (lines : Lines) (bytes : List ℕ)
     → length (head_found p word lines bytes).rest ≤ length bytes
 found_within p word lines [] = omega arith
-found_within p word lines (b ∷ bs) =
-    step_within (head_step p b) p word lines b bs (λ q w. found_within q w (past b lines) bs)
+found_within p word lines (b ∷ bs) = step_within (head_step p b) p word lines b bs (λ q w. found_within q w (past b lines) bs)
 
 -- Each place takes one at least of some bytes, but for the place behind the head.
 record TakesMore (p : HeadPlace) (word : List ℕ) (lines : Lines) : Type 0 where
@@ -114,19 +111,16 @@ pub heard_word : {S : Type 0} {f : Files S} {a b : S} {u v : View} {from at plac
     → Heard HeadRead f false a b u v (λ rest. record { is_word = is; place = place; word = word; lines = now; rest = rest })
     (next_head_word from was)
 heard_word {f = f} {a = a} {b = b} {u = u} {v = v} {from = from} {at = at} {place = place} {word = word} {was = was} {now = now} h cleared
-    tells goes =
-    heard_same (heard_as head_read_of
+    tells goes = heard_same (heard_as head_read_of
     (subst (λ w. Heard HeadFound f false a b u v (λ rest. record { place = at; word = word; lines = now; rest = rest })
-    (head_found from w was)) cleared h))
-    (λ rest may.
+    (head_found from w was)) cleared h)) (λ rest may.
     ap (λ x. record { is_word = x; place = place; word = word; lines = now; rest = v.left ++ rest }) tells
     ∙ ap (λ p. record { is_word = is_word at; place = p; word = word; lines = now; rest = v.left ++ rest }) goes)
 
 -- a word that was heard took its bytes
 pub took_word : {S : Type 0} {f : Files S} {a b : S} {before after : View} {from at : HeadPlace} {begun word : List ℕ} {was now : Lines}
     → Heard HeadFound f false a b before after (λ rest. record { place = at; word = word; lines = now; rest = rest })
-    (head_found from begun was)
-    → TookWord (is_word at) from before after
+    (head_found from begun was) → TookWord (is_word at) from before after
 took_word {before = before} {after = after} {from = from} {at = at} {begun = begun} {word = word} {was = was} {now = now} h = λ there none.
     let bytes : List ℕ = before.left ++ (h.went.bytes ++ []) in
     let same : record { place = at; word = word; lines = now; rest = after.left ++ [] } ≡ head_found from begun was bytes =

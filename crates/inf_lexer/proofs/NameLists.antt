@@ -13,11 +13,10 @@ prefix_map test [] = refl
 prefix_map test (k ∷ keys) = ap (λ n. cond (test (string_bytes k)) (1 + n) 0) (prefix_map test keys)
 
 within : (n m : ℕ) → n ≤ m → unwrap_or (cond (nat_lt n m) (Some n) None) m ≡ n
-within n m le = by (nat_lt n m) refl
-  where
-    by : (b : Bool) → nat_lt n m ≡ b → unwrap_or (cond b (Some n) None) m ≡ n
-    by true e = refl
-    by false e = grind (arith, e, le)
+within n m le = by (nat_lt n m) refl where
+  by : (b : Bool) → nat_lt n m ≡ b → unwrap_or (cond b (Some n) None) m ≡ n
+  by true e = refl
+  by false e = grind (arith, e, le)
 
 -- the place of a name among the keys
 pub place_in : (test : List ℕ → Bool) (keys : List (String Global)) →

@@ -96,8 +96,7 @@ taken_of {v = v} n r = record {
 }
 
 -- a refused answer by its fault
-pub fault_is : {T E : Type 0} (answer : Result T E) {fault : E} → IsErr answer × IsErrAnd answer (λ x. x ≡ fault)
-    → answer ≡ Err fault
+pub fault_is : {T E : Type 0} (answer : Result T E) {fault : E} → IsErr answer × IsErrAnd answer (λ x. x ≡ fault) → answer ≡ Err fault
 fault_is (Ok x) told = cc
 fault_is (Err x) told = ap Err told.1
 
@@ -184,8 +183,7 @@ pub heard_on : {T : Type 0} {S : Type 0} {f : Files S} {failed : Bool} {a b c : 
 unfolding reads_then
 heard_on {u = u} {now = now} {was = was} h r = record {
   went = reads_then h.went r.went;
-  same = λ behind can.
-      ap now (r.same behind can)
+  same = λ behind can. ap now (r.same behind can)
       ∙ h.same (r.went.bytes ++ behind) (λ over. ap (λ bs. bs ++ behind) (r.went.stops over).0 ∙ can (r.went.stops over).1)
       ∙ ap (λ bs. was (u.left ++ bs)) (sym (append_assoc h.went.bytes r.went.bytes behind));
 }
@@ -204,11 +202,9 @@ pub heard_taken : {T X S : Type 0} {f : Files S} {a b c : S} {u v w x : View} {n
 unfolding taken_of
 heard_taken {T = T} {f = f} {a = a} {c = c} {u = u} {w = w} {x = x} {now = now} {was = was} {t = t} next n h r seen passed found turned =
     let on = heard_on h r in
-    subst (λ k. Heard T f false a c u x (next k) was) turned
-    (subst⁻¹ (λ v. Heard T f false a c u v (next t) was) passed (record {
+    subst (λ k. Heard T f false a c u x (next k) was) turned (subst⁻¹ (λ v. Heard T f false a c u v (next t) was) passed (record {
       went = taken_of n on.went;
-      same = λ behind can.
-          subst (λ l. next t (drop n l ++ behind) ≡ now (l ++ behind)) seen (found behind) ∙ on.same behind can;
+      same = λ behind can. subst (λ l. next t (drop n l ++ behind) ≡ now (l ++ behind)) seen (found behind) ∙ on.same behind can;
     }))
 
 -- a value that is made of the one that was heard
@@ -221,8 +217,7 @@ can_follow s o v = λ over. ap (λ b. cond b [] (unread s o)) over
 
 -- the bytes that follow the view, before and after a reading
 follows : (b c : Bool) {before after bytes : List ℕ} → (b ≡ true → (bytes ≡ []) × (c ≡ true)) → before ≡ bytes ++ after →
-    (b ≡ false → c ≡ true → after ≡ [])
-    → cond b [] before ≡ bytes ++ cond c [] after
+    (b ≡ false → c ≡ true → after ≡ []) → cond b [] before ≡ bytes ++ cond c [] after
 follows true c {after = after} stops next ends =
     sym (ap (λ bs. bs ++ cond c [] after) (stops refl).0 ∙ ap (λ x. cond x [] after) (stops refl).1)
 follows false true {bytes = bytes} stops next ends = next ∙ ap (λ u. bytes ++ u) (ends refl refl)

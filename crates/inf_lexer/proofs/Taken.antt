@@ -22,8 +22,7 @@ heard_token {v = v} set limit {seen = seen} found is =
     heard_same (heard_as (read_of set) found) (λ rest may. ap (λ x. read_as x seen (v.left ++ rest)) is)
 
 one_of : (k found : TokenKind) (before left bytes rest : List ℕ) (given now : ℕ) → k ≡ found → length (left ++ []) ≡ length rest →
-    now ≡ given + length bytes
-    → (found ≡ TokenKind.End) ⊎ (length rest < length (before ++ (bytes ++ []))) → (k ≡ TokenKind.End) ⊎
+    now ≡ given + length bytes → (found ≡ TokenKind.End) ⊎ (length rest < length (before ++ (bytes ++ []))) → (k ≡ TokenKind.End) ⊎
     (given + length left < now + length before)
 one_of k found before left bytes rest given now same size count (inl is) = inl (same ∙ is)
 one_of k found before left bytes rest given now same size count (inr less) =
@@ -36,15 +35,13 @@ over_of false other = absurd (other refl)
 pub took_of : {S : Type 0} {f : Files S} {a b : S} {before after : View} (set : CharSet) (limit : ℕ) {lines : Lines} {seen : Sight}
     {k : TokenKind} → Heard Read f false a b before after (read_as k seen) (next_token set limit lines) → Took k before after seen.kept
 took_of {before = before} {after = after} set limit {lines = lines} {seen = seen} {k = k} h =
-    let heard = h.went in
-    let bytes : List ℕ = before.left ++ (heard.bytes ++ []) in
+    let heard = h.went in let bytes : List ℕ = before.left ++ (heard.bytes ++ []) in
     let same : read_as k seen (after.left ++ []) ≡ next_token set limit lines bytes = h.same [] (λ _. refl) in
     let takes = tokens_take_bytes set limit lines bytes in
     let kinds : k ≡ (next_token set limit lines bytes).kind = ap (λ (r : Read). r.kind) same in
     record {
       one = one_of k (next_token set limit lines bytes).kind before.left after.left heard.bytes (next_token set limit lines bytes).rest
-          before.given after.given
-          kinds (ap (λ (r : Read). length r.rest) same) heard.given takes.one;
+          before.given after.given kinds (ap (λ (r : Read). length r.rest) same) heard.given takes.one;
       last = λ is. (
         sym (append-nil after.left) ∙ ap (λ (r : Read). r.rest) same ∙ takes.end (sym kinds ∙ is),
         over_of after.is_over (λ on.
@@ -55,8 +52,7 @@ took_of {before = before} {after = after} set limit {lines = lines} {seen = seen
             ∙ ap length ((tokens_take_bytes set limit lines more).end (sym (ap (λ (r : Read). r.kind) then) ∙ is)) in
             omega (arith, none, length-append after.left (0 ∷ []))),
       );
-      again = λ at.
-          kinds ∙ ap (λ l. (next_token set limit lines l).kind)
+      again = λ at. kinds ∙ ap (λ l. (next_token set limit lines l).kind)
           (ap (λ l. l ++ (heard.bytes ++ [])) at.0 ∙ append-nil heard.bytes ∙ (heard.stops at.1).0);
       short = λ run.
           let kept = ap (λ (r : Read). length r.kept.bytes) same in

@@ -22,12 +22,10 @@ pub stays_open : {T S : Type 0} {f : Files S} {a b c : S} {u v w : View} {now wa
     → StaysOpen (λ bytes. rest (was bytes)) (to_come (f.sources a) (f.openings a) u) (w.given - 16777216)
     (unread (f.sources a) (f.openings c))
 stays_open {f = f} {a = a} {b = b} {c = c} {u = u} {v = v} {w = w} {now = now} {was = was} rest h r empty last within more takes honest =
-    let read = r.went.bytes in
-    let sources = f.sources a in
+    let read = r.went.bytes in let sources = f.sources a in
     let more_gave = subst (λ s. Gave s (f.openings b) (f.openings c) read) h.went.sources (r.went.gave (h.went.honesty ∙ honest)) in
     let found : (behind : List ℕ) → now behind ≡ was ((u.left ++ h.went.bytes) ++ behind) = λ behind.
-    ap (λ l. now (l ++ behind)) (sym empty.0)
-    ∙ h.same behind (λ over. let never : true ≡ false = sym over ∙ empty.1 in cc)
+    ap (λ l. now (l ++ behind)) (sym empty.0) ∙ h.same behind (λ over. let never : true ≡ false = sym over ∙ empty.1 in cc)
     ∙ ap was (sym (append_assoc u.left h.went.bytes behind)) in
     record {
       bytes = u.left ++ h.went.bytes;

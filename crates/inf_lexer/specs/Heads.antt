@@ -18,8 +18,7 @@ comment_step b = if is_line_end b then HeadStep.Stop else HeadStep.Pass HeadPlac
 
 -- the step of a byte behind `!%` or behind a word; a line ends with CR, LF or CR LF
 abbrev pub gap_step : ℕ → HeadStep
-gap_step b =
-    if is_cut b then HeadStep.Pass HeadPlace.Gap else if b == 13 then HeadStep.Pass HeadPlace.Return else
+gap_step b = if is_cut b then HeadStep.Pass HeadPlace.Gap else if b == 13 then HeadStep.Pass HeadPlace.Return else
     if b == 10 then HeadStep.Pass HeadPlace.Line else HeadStep.Keep
 
 -- the step of a byte at a place
@@ -93,8 +92,7 @@ pub record HeadRead : Type 0 where
   pub rest : List ℕ
 
 abbrev pub head_read_of : HeadFound → HeadRead
-head_read_of f =
-    record { is_word = is_word f.place; place = place_behind f.place; word = f.word; lines = f.lines; rest = f.rest }
+head_read_of f = record { is_word = is_word f.place; place = place_behind f.place; word = f.word; lines = f.lines; rest = f.rest }
 
 -- the next word of a head that goes on at a place with some bytes
 abbrev pub next_head_word : HeadPlace → Lines → List ℕ → HeadRead

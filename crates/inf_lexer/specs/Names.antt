@@ -82,8 +82,7 @@ name_beside other file = placed (directory_of other) file
 
 -- the names of a file in some directories, in their order; its name by itself where there are none
 abbrev pub names_in : List (List ℕ) → List ℕ → List (List ℕ)
-names_in directories file =
-    if length directories == 0 then name_in [] file ∷ [] else map (λ directory. name_in directory file) directories
+names_in directories file = if length directories == 0 then name_in [] file ∷ [] else map (λ directory. name_in directory file) directories
 
 -- the names under which the file of an inclusion is looked for, in their order
 abbrev pub candidates : List (List ℕ) → List ℕ → List ℕ → List (List ℕ)

@@ -24,8 +24,7 @@ read_out token reader rest = record { kind = token.kind; line = token.place.line
 
 -- the word of a head that a call read, with the rest behind it
 abbrev pub head_out : Bool → HeadPlace → List ℕ → Reader → List ℕ → HeadRead
-head_out is_word place word reader rest =
-    record { is_word = is_word; place = place; word = word; lines = reader.lines; rest = rest }
+head_out is_word place word reader rest = record { is_word = is_word; place = place; word = word; lines = reader.lines; rest = rest }
 
 -- a lexer that has read nothing yet
 abbrev pub at_front : CharSet → ℕ → ℕ → Reader
@@ -61,8 +60,7 @@ place_after (Err _) from = from
 
 -- The bytes that a word of a head takes, with any reader: one at least, where none of the word was read before.
 abbrev pub TookWord : Bool → HeadPlace → View → View → Type 0
-TookWord is from before after =
-    is ≡ true → is_word from ≡ false → before.given + length after.left < after.given + length before.left
+TookWord is from before after = is ≡ true → is_word from ≡ false → before.given + length after.left < after.given + length before.left
 
 -- The bytes `bytes`, at the front of all that is still to come, end nothing where `left_of` is the rest that is left of all that
 -- comes: whatever follows them, they are all taken, and one at least is taken of some bytes that may follow.

@@ -222,8 +222,7 @@ impl Lexer {
         })
     }
 
-    /// Reads the next word of the head of the source into `word`, of which at most 256 bytes are kept, and returns whether there
-    /// was one.
+    /// Reads the next word of the head of the source into `word`, of which at most 256 bytes are kept, and returns whether there was one.
     ///
     /// The head is the source's lines, from its first byte on, that begin with `!%`; lines end with CR, LF or CR LF. Words follow
     /// `!%`, which are cut at spaces and tabs alone. `place` is where the head goes on: `HeadPlace::Line` before the first call,

@@ -104,10 +104,9 @@ impl Stack {
 
     /// Enters the main source, by its whole name, and returns its lexer; it is then the innermost file.
     ///
-    /// The faults, in the order of their checks: `BadName` for an empty name; `TooDeep` where 16 files are
-    /// open, and then nothing is opened; `Absent` and `Device` of the reader, `Device` also where 65,535
-    /// other names were entered before; `Memory` where there is no room, which is asked for before the
-    /// source is opened.
+    /// The faults, in the order of their checks: `BadName` for an empty name; `TooDeep` where 16 files are open, and then nothing is
+    /// opened; `Absent` and `Device` of the reader, `Device` also where 65,535 other names were entered before; `Memory` where there is no
+    /// room, which is asked for before the source is opened.
     pub fn enter_main<F: Files>(&mut self, files: &mut F, name: &str) -> Result<Lexer, EnterFault>
         ensures attempt { Attempts F.Files files.old files.new (name.now ∷ []) self.old self.new result }
         ensures bad_name { length name.now ≡ 0 → (result ≡ Err EnterFault.BadName) × (files.new ≡ files.old) }
@@ -132,10 +131,9 @@ impl Stack {
     /// is there in these directories, in their order; where there are none, or a directory is empty, it is looked for by
     /// its own name. A name whose last part has no `.` gets `.h`.
     ///
-    /// The faults, in the order of their checks: `BadName` for an empty name and for one with a byte over 127;
-    /// `TooDeep` where 16 files are open, and then nothing is opened; `Absent` and `Device` of the reader, `Device` also
-    /// where 65,535 other names were entered before; `Memory` where there is no room, which is asked for before
-    /// each attempt to open a source.
+    /// The faults, in the order of their checks: `BadName` for an empty name and for one with a byte over 127; `TooDeep` where 16 files are
+    /// open, and then nothing is opened; `Absent` and `Device` of the reader, `Device` also where 65,535 other names were entered before;
+    /// `Memory` where there is no room, which is asked for before each attempt to open a source.
     pub fn enter<F: Files>(
         &mut self,
         files: &mut F,

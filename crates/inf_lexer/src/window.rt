@@ -70,8 +70,7 @@ impl Window {
         ensures taken { self.new.given + length self.old.left ≡ self.old.given + length self.new.left }
         ensures err { IfErr result (λ fault. fault ≡ LexFault.Read) }
         ensures refused { IsErr result → (self.old.left ≡ []) × (self.old.is_over ≡ false) }
-        ensures unread { IsErr result → (self.new.given ≡ self.old.given)
-            ⊎ ((self.old.given ≡ 16777216) × (self.new.given ≡ 16777217)) }
+        ensures unread { IsErr result → (self.new.given ≡ self.old.given) ⊎ ((self.old.given ≡ 16777216) × (self.new.given ≡ 16777217)) }
     {
         if self.next < self.end || self.is_over {
             return Ok(());
@@ -98,8 +97,7 @@ impl Window {
         ensures ahead { length self.new.left ≤ self.new.given }
         ensures taken { self.new.given ≡ self.old.given + length self.new.left }
         ensures err { IfErr result (λ fault. fault ≡ LexFault.Read) }
-        ensures unread { IsErr result → (self.new.given ≡ self.old.given)
-            ⊎ ((self.old.given ≡ 16777216) × (self.new.given ≡ 16777217)) }
+        ensures unread { IsErr result → (self.new.given ≡ self.old.given) ⊎ ((self.old.given ≡ 16777216) × (self.new.given ≡ 16777217)) }
     {
         self.next = 0;
         self.end = 0;

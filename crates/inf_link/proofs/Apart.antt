@@ -38,17 +38,13 @@ from_far G p q (inr behind) f g = g behind
 
 with_word-comm : (bytes : List ℕ) (p q m n : ℕ) → Far p q → with_word (with_word bytes p m) q n ≡ with_word (with_word bytes q n) p m
 with_word-comm bytes p q m n far =
-    let a = m / 256 in
-    let b = m % 256 in
-    let c = n / 256 in
-    let d = n % 256 in
+    let a = m / 256 in let b = m % 256 in let c = n / 256 in let d = n % 256 in
     let first : p ≢ q = λ e. from_far ⊥ p q far (λ x. omega (arith, x, e)) (λ x. omega (arith, x, e)) in
     let second : p ≢ q + 1 = λ e. from_far ⊥ p q far (λ x. omega (arith, x, e)) (λ x. omega (arith, x, e)) in
     let third : p + 1 ≢ q = λ e. from_far ⊥ p q far (λ x. omega (arith, x, e)) (λ x. omega (arith, x, e)) in
     let fourth : p + 1 ≢ q + 1 = λ e. from_far ⊥ p q far (λ x. omega (arith, x, e)) (λ x. omega (arith, x, e)) in
     let one = set bytes p a in
-    ap (λ xs. set xs (q + 1) d) (set_comm one (p + 1) q b c third)
-    ∙ set_comm (set one q c) (p + 1) (q + 1) b d fourth
+    ap (λ xs. set xs (q + 1) d) (set_comm one (p + 1) q b c third) ∙ set_comm (set one q c) (p + 1) (q + 1) b d fourth
     ∙ ap (λ xs. set (set xs (q + 1) d) (p + 1) b) (set_comm bytes p q a c first)
     ∙ ap (λ xs. set xs (p + 1) b) (set_comm (set bytes q c) p (q + 1) a d second)
 
@@ -105,8 +101,7 @@ step-comm number fixup other contents apart = by_name-same (two fixup other) (tw
       (with_number other.place (number other.target)) (area_of name contents)
       (λ here there. with_number-comm (area_of name contents) fixup.place other.place (number fixup.target) (number other.target)
       (apart (rank-same fixup.area other.area (eqb-true (rank fixup.area) (rank name) here ∙ sym
-      (eqb-true (rank other.area) (rank name) there)))))
-      ∙ ap (does fixup name) (sym (area_of-step number other contents name))
+      (eqb-true (rank other.area) (rank name) there))))) ∙ ap (does fixup name) (sym (area_of-step number other contents name))
 
 -- Tells whether a list has a fixup.
 abbrev pub IsIn : Fixup → List Fixup → Type 0
@@ -145,16 +140,14 @@ without number fixup (other ∷ others) (inl same) apart = record {
   first = λ contents. ap (λ (x : Fixup). filled number others (step number x contents)) same;
 }
 without number fixup (other ∷ others) (inr is) apart =
-    let rest = without number fixup others is apart.1 in
-    let here : AreApart other fixup = apart.0 fixup is in
+    let rest = without number fixup others is apart.1 in let here : AreApart other fixup = apart.0 fixup is in
     record {
       left = other ∷ rest.left;
       apart = ((λ f isf. apart.0 f (rest.from f isf)), rest.apart);
       from = λ f isf. elim isf [ inl e ↦ inl e | inr e ↦ inr (rest.from f e) ];
       other_than = λ f isf. elim isf [
         | inl e ↦ subst (λ (x : Fixup). AreApart fixup x) e (apart-sym other fixup here)
-        | inr e ↦
-            rest.other_than f e
+        | inr e ↦ rest.other_than f e
       ];
       found = λ f isf. elim isf [ inl e ↦ inr (inl e) | inr e ↦ elim (rest.found f e) [ inl x ↦ inl x | inr x ↦ inr (inr x) ] ];
       first =
@@ -170,13 +163,10 @@ filled-any_order number (fixup ∷ fixups) others contents apart apart_others to
     let rest = without number fixup others (to fixup (inl refl)) apart_others in
     rest.first contents ∙ filled-any_order number fixups rest.left (step number fixup contents) apart.1 rest.apart
     (λ f is. elim (rest.found f (to f (inr is))) [
-      | inl e ↦ absurd (not_itself fixup (subst (λ (x : Fixup). AreApart fixup x) (sym e)
-          (apart.0 f is)))
+      | inl e ↦ absurd (not_itself fixup (subst (λ (x : Fixup). AreApart fixup x) (sym e) (apart.0 f is)))
       | inr x ↦ x
-    ])
-    (λ f is. elim (back f (rest.from f is)) [
-      | inl e ↦ absurd (not_itself fixup (subst (λ (x : Fixup). AreApart fixup x) (sym e)
-          (rest.other_than f is)))
+    ]) (λ f is. elim (back f (rest.from f is)) [
+      | inl e ↦ absurd (not_itself fixup (subst (λ (x : Fixup). AreApart fixup x) (sym e) (rest.other_than f is)))
       | inr x ↦ x
     ])
 
@@ -206,8 +196,7 @@ pub in_same_back : (fixups others : List Fixup) → HaveSameFixups fixups others
 in_same_back fixups others same f is = let found = (same f).1 (contains others f is) in is_in fixups f found.0 found.1 found.2
 
 pub filled-in_any_order : (number : Target → ℕ) (contents : Areas (List ℕ)) (fixups others : List Fixup) → AllPairs AreApart fixups →
-    AllPairs AreApart others → HaveSameFixups fixups others
-    → filled number others contents ≡ filled number fixups contents
+    AllPairs AreApart others → HaveSameFixups fixups others → filled number others contents ≡ filled number fixups contents
 filled-in_any_order number contents fixups others apart apart_others same =
     filled-any_order number fixups others contents (all_apart fixups apart) (all_apart others apart_others) (in_same fixups others same)
     (in_same_back fixups others same)

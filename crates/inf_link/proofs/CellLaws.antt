@@ -47,13 +47,11 @@ filled_area-others number (fixup ∷ fixups) area bytes others =
 with_word-middle : (front rest : List ℕ) (place number : ℕ) → place ≡ length front →
     with_word (front ++ 0 ∷ 0 ∷ rest) place number ≡ (front ++ word number) ++ rest
 with_word-middle front rest place number at =
-    let high = number / 256 in
-    let low = number % 256 in
+    let high = number / 256 in let low = number % 256 in
     let long : length (front ++ high ∷ []) ≡ place + 1 = omega (arith, length-append front (high ∷ []), at) in
     ap (λ xs. set xs (place + 1) low) (set_at front 0 (0 ∷ rest) high place (sym at))
     ∙ ap (λ xs. set xs (place + 1) low) (sym (append_assoc front (high ∷ []) (0 ∷ rest)))
-    ∙ set_at (front ++ high ∷ []) 0 rest low (place + 1) long
-    ∙ append_assoc front (high ∷ []) (low ∷ rest)
+    ∙ set_at (front ++ high ∷ []) 0 rest low (place + 1) long ∙ append_assoc front (high ∷ []) (low ∷ rest)
     ∙ sym (append_assoc front (word number) rest)
 
 with_number-middle : (front rest : List ℕ) (place number : ℕ) → place ≡ length front →
@@ -61,8 +59,7 @@ with_number-middle : (front rest : List ℕ) (place number : ℕ) → place ≡ 
 with_number-middle front rest place number at =
     let within : place + 1 < length (front ++ 0 ∷ 0 ∷ rest) = omega (arith, length-append front (0 ∷ 0 ∷ rest), at) in
     ap (λ b. if b then with_word (front ++ 0 ∷ 0 ∷ rest) place number else front ++ 0 ∷ 0 ∷ rest)
-    (lt-ltb (place + 1) (length (front ++ 0 ∷ 0 ∷ rest)) within)
-    ∙ with_word-middle front rest place number at
+    (lt-ltb (place + 1) (length (front ++ 0 ∷ 0 ∷ rest)) within) ∙ with_word-middle front rest place number at
 
 -- an area's own fixups
 filled_area-cells : (number : Target → ℕ) (area : AreaName) (place : ℕ) (front : List ℕ) (cells : List Cell) → place ≡ length front
@@ -73,14 +70,11 @@ filled_area-cells number area place front ((Cell.Byte byte) ∷ cells) at =
     ∙ filled_area-cells number area (place + 1) (front ++ byte ∷ []) cells (omega (arith, length-append front (byte ∷ []), at))
     ∙ append_assoc front (byte ∷ []) (numbered number cells)
 filled_area-cells number area place front ((Cell.Later target) ∷ cells) at =
-    let rest = bytes_of cells in
-    let left = fixups_of area (place + 2) cells in
+    let rest = bytes_of cells in let left = fixups_of area (place + 2) cells in
     ap (λ b. filled_area number left area (if b then with_number place (number target) (front ++ 0 ∷ 0 ∷ rest) else front ++ 0 ∷ 0 ∷ rest))
-    (eq-eqb (rank area) (rank area) refl)
-    ∙ ap (filled_area number left area) (with_number-middle front rest place (number target) at)
+    (eq-eqb (rank area) (rank area) refl) ∙ ap (filled_area number left area) (with_number-middle front rest place (number target) at)
     ∙ filled_area-cells number area (place + 2) (front ++ word (number target)) cells
-    (omega (arith, length-append front (word (number target)), at))
-    ∙ append_assoc front (word (number target)) (numbered number cells)
+    (omega (arith, length-append front (word (number target)), at)) ∙ append_assoc front (word (number target)) (numbered number cells)
 
 -- the places of the fixups of cells
 in_cells : (area : AreaName) (place : ℕ) (cells : List Cell) (fixup : Fixup) → IsIn fixup (fixups_of area place cells) →
@@ -137,8 +131,7 @@ apart-areas : (cells : Areas (List Cell)) (from : ℕ) (names : List AreaName) �
 apart-areas cells from [] rises = tt
 apart-areas cells from (area ∷ names) rises =
     apart-append (fixups_of area 0 (area_of area cells)) (fixups_in cells names) (apart-cells area 0 (area_of area cells))
-    (apart-areas cells (rank area + 1) names rises.1)
-    (λ fixup other is is_other same.
+    (apart-areas cells (rank area + 1) names rises.1) (λ fixup other is is_other same.
     let here : rank fixup.area ≡ rank area = ap rank (in_cells area 0 (area_of area cells) fixup is).0 in
     let there : rank area + 1 ≤ rank other.area = in_areas cells (rank area + 1) names other rises.1 is_other in
     absurd (omega (arith, ap rank same)))
@@ -211,19 +204,16 @@ filled_area-areas number cells area from (other ∷ names) rises is =
           (λ fixup isf e. let behind : rank other + 1 ≤ rank fixup.area = in_areas cells (rank other + 1) names fixup rises.1 isf in omega
           (arith, e, same))
       go false there found rest = ap (filled_area number (fixups_in cells names) area)
-          (filled_area-others number (fixups_of other 0 (area_of other cells)) area bytes
-          (λ fixup isf e. absurd (cc (
+          (filled_area-others number (fixups_of other 0 (area_of other cells)) area bytes (λ fixup isf e. absurd (cc (
             there,
             eq-eqb (rank other) (rank area) (sym (ap rank (in_cells other 0 (area_of other cells) fixup isf).0) ∙ e),
-          ))))
-          ∙ rest found
+          )))) ∙ rest found
 
 -- areas of cells where the fixups of all are filled
 filled-cells : (number : Target → ℕ) (cells : Areas (List Cell)) →
     filled number (cells_fixups cells) (cells_contents cells) ≡ by_name (λ area. numbered number (area_of area cells))
 filled-cells number cells = by_name-same (λ area. area_of area (filled number (cells_fixups cells) (cells_contents cells)))
-    (λ area. numbered number (area_of area cells))
-    (λ area. area_of-filled number (cells_fixups cells) (cells_contents cells) area
+    (λ area. numbered number (area_of area cells)) (λ area. area_of-filled number (cells_fixups cells) (cells_contents cells) area
     ∙ ap (filled_area number (cells_fixups cells) area) (area_of-by_name (λ n. bytes_of (area_of n cells)) area)
     ∙ filled_area-areas number cells area 0 order order_rises (has_each area))
 
@@ -249,8 +239,7 @@ pub cells_in_order : (cells : Areas (List Cell)) (targets : Lookup) (fields : He
 unfolding filled_areas
 cells_in_order cells targets fields =
     let numbers = λ (sizes : Areas ℕ). number_of targets fields.scale (map_of sizes fields.scale).bases in
-    ap (λ areas. story_of areas fields)
-    (filled-cells (numbers (lengths (cells_contents cells))) cells ∙ ap
+    ap (λ areas. story_of areas fields) (filled-cells (numbers (lengths (cells_contents cells))) cells ∙ ap
     (λ sizes. by_name (λ area. numbered (numbers sizes) (area_of area cells))) (sizes-cells cells))
 
 pub cells_come_out_as_numbers : CellsComeOutAsNumbers
@@ -260,7 +249,5 @@ cells_come_out_as_numbers cells fixups targets fields apart same =
     let number = numbers (lengths (cells_contents cells)) in
     ap (λ areas. story_of areas fields)
     (filled-any_order number (cells_fixups cells) fixups (cells_contents cells) (apart-areas cells 0 order order_rises)
-    (all_apart fixups apart)
-    (in_same (cells_fixups cells) fixups same) (in_same_back (cells_fixups cells) fixups same)
-    ∙ filled-cells number cells
-    ∙ ap (λ sizes. by_name (λ area. numbered (numbers sizes) (area_of area cells))) (sizes-cells cells))
+    (all_apart fixups apart) (in_same (cells_fixups cells) fixups same) (in_same_back (cells_fixups cells) fixups same)
+    ∙ filled-cells number cells ∙ ap (λ sizes. by_name (λ area. numbered (numbers sizes) (area_of area cells))) (sizes-cells cells))

@@ -20,8 +20,7 @@ lengths-with_filled : (area : AreaName) (place number : ℕ) (contents : Areas (
 lengths-with_filled area place number contents =
     by_name-same (λ name. length (area_of name (with_filled area place number contents))) (λ name. length (area_of name contents))
     (λ name. ap length (area_of-by_name (λ n. if rank area == rank n then with_number place number (area_of n contents) else area_of n
-    contents) name)
-    ∙ length-chosen (rank area == rank name) place number (area_of name contents))
+    contents) name) ∙ length-chosen (rank area == rank name) place number (area_of name contents))
 
 pub lengths-filled : (number : Target → ℕ) (fixups : List Fixup) (contents : Areas (List ℕ)) →
     lengths (filled number fixups contents) ≡ lengths contents

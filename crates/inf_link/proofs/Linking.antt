@@ -26,15 +26,13 @@ lengths-filled_areas contents fixups targets fields =
 pub story-parts : (contents areas : Areas (List ℕ)) (fixups : List Fixup) (targets : Lookup) (fields : HeaderFields) (sizes : Areas ℕ)
     (map : MemoryMap) (behind : List ℕ)
     → sizes ≡ lengths contents → map ≡ map_of sizes fields.scale → areas ≡ filled_areas contents fixups targets fields → behind ≡ body
-    fields.scale areas
-    → header fields map.bases behind ++ behind ≡ story contents fixups targets fields
+    fields.scale areas → header fields map.bases behind ++ behind ≡ story contents fixups targets fields
 unfolding story_of
 story-parts contents areas fixups targets fields sizes map behind are_sizes is_map are_filled is_behind =
     let done = filled_areas contents fixups targets fields in
     let same : sizes ≡ lengths done = are_sizes ∙ sym (lengths-filled_areas contents fixups targets fields) in
     let whole : behind ≡ body fields.scale done = is_behind ∙ ap (body fields.scale) are_filled in
-    ap (λ m. header fields m.bases behind ++ behind) is_map
-    ∙ ap (λ s. header fields (map_of s fields.scale).bases behind ++ behind) same
+    ap (λ m. header fields m.bases behind ++ behind) is_map ∙ ap (λ s. header fields (map_of s fields.scale).bases behind ++ behind) same
     ∙ ap (λ bytes. header fields (map_of (lengths done) fields.scale).bases bytes ++ bytes) whole
 
 -- the numbers of bytes of the parts

@@ -48,8 +48,7 @@ counted text (word ∷ words) (suc i) le point =
 -- the partition point of the words below a text
 pub partition_point-rank : (text : Text) (words : List Text) (i : ℕ) → IsSorted cmp words → i ≤ length words
     → (IsPartitionedBy (λ word. is_below word text) words → IsPartitionPoint (λ word. is_below word text ≡ true)
-    (λ word. is_below word text ≡ false) words i)
-    → i ≡ rank_of text words
+    (λ word. is_below word text ≡ false) words i) → i ≡ rank_of text words
 partition_point-rank text words i sorted le point = counted text words i le (point (partitioned text words sorted))
 
 -- one where a word is below a text, and none where it is not

@@ -55,8 +55,7 @@ joined-front : (s : Scale) (contents : Areas (List ℕ)) (names : List AreaName)
     (rest : List ℕ) × (joined s contents names bytes ≡ bytes ++ rest)
 joined-front s contents [] bytes = (replicate (gap s (length bytes)) 0, refl)
 joined-front s contents (area ∷ names) bytes =
-    let others = joined-front s contents names (with_area s contents area bytes) in
-    go (is_packed area) others where
+    let others = joined-front s contents names (with_area s contents area bytes) in go (is_packed area) others where
       go : (b : Bool) → ((rest : List ℕ) × (joined s contents names (with_area s contents area bytes) ≡
           ((if b then padded s bytes else bytes) ++ area_of area contents) ++ rest))
           → (rest : List ℕ) × (joined s contents names (with_area s contents area bytes) ≡ bytes ++ rest)
@@ -141,8 +140,7 @@ header_words fields bases bytes six = with_six (λ serial. HasAt 0x1A (header (r
     (λ a b c d e f. (refl, refl)) fields.serial six
 
 told : (fields : HeaderFields) (bases : Areas ℕ) (end : ℕ) (bytes : List ℕ) → length fields.serial ≡ 6 → 64 + length bytes ≡ end →
-    end % scale_number fields.scale ≡ 0
-    → TellsItself fields.scale end (header fields bases bytes ++ bytes)
+    end % scale_number fields.scale ≡ 0 → TellsItself fields.scale end (header fields bases bytes ++ bytes)
 told fields bases end bytes six long whole =
     let head = header fields bases bytes in
     let size : length (head ++ bytes) ≡ 64 + length bytes =
@@ -170,8 +168,7 @@ unfolding story_of
 areas_stand_at_their_bases contents fields six area =
     let behind = body fields.scale contents in
     let head = header fields (map_of (lengths contents) fields.scale).bases behind in
-    let here = stands-body fields.scale contents area in
-    let part = area_of area contents in
+    let here = stands-body fields.scale contents area in let part = area_of area contents in
     let all : head ++ behind ≡ (head ++ here.before) ++ (part ++ here.behind) =
     ap (λ xs. head ++ xs) here.are ∙ sym (append_assoc head here.before (part ++ here.behind)) in
     let place : length (head ++ here.before) ≡ base_of (lengths contents) fields.scale area = length-append head here.before

@@ -43,12 +43,10 @@ by_name f = record {
 
 -- the areas behind the header, in their order (section 1.1)
 abbrev pub order : List AreaName
-order =
-    AreaName.LowStrings ∷ AreaName.Abbreviations ∷ AreaName.PropertyDefaults ∷ AreaName.Objects ∷ AreaName.PropertyTables ∷
+order = AreaName.LowStrings ∷ AreaName.Abbreviations ∷ AreaName.PropertyDefaults ∷ AreaName.Objects ∷ AreaName.PropertyTables ∷
     AreaName.ClassNumbers
     ∷ AreaName.IndividualTables ∷ AreaName.Globals ∷ AreaName.Arrays ∷ AreaName.Grammar ∷ AreaName.Actions ∷ AreaName.ParsingRoutines ∷
-    AreaName.Dictionary
-    ∷ AreaName.Code ∷ AreaName.Strings ∷ []
+    AreaName.Dictionary ∷ AreaName.Code ∷ AreaName.Strings ∷ []
 
 -- the number of areas before one
 abbrev pub rank : AreaName → ℕ
@@ -68,8 +66,7 @@ rank AreaName.Dictionary = 12
 rank AreaName.Code = 13
 rank AreaName.Strings = 14
 
--- whether the contents of an area have packed addresses, which makes the area begin at a multiple of their scale (section
--- 1.2.3)
+-- whether the contents of an area have packed addresses, which makes the area begin at a multiple of their scale (section 1.2.3)
 abbrev pub is_packed : AreaName → Bool
 is_packed AreaName.Code = true
 is_packed AreaName.Strings = true

@@ -18,18 +18,14 @@ checksum body = sum body % 65536
 -- Up to the serial number: version, flags, and from $02 on release, code, first instruction, dictionary, objects, globals,
 -- static memory, flags; from $12 on the serial number.
 unfoldable pub header_front : HeaderFields → Areas ℕ → List ℕ
-header_front fields bases =
-    (version fields.scale ∷ 0 ∷ [])
-    ++ flat_map number_bytes (
+header_front fields bases = (version fields.scale ∷ 0 ∷ []) ++ flat_map number_bytes (
     fields.release ∷ bases.code ∷ (bases.code + 1) ∷ bases.dictionary ∷ bases.property_defaults ∷ bases.globals ∷ bases.grammar ∷ 0 ∷ [])
     ++ fields.serial
 
--- From $18 on: abbreviations, the length of the story, divided as packed addresses are, and the checksum; all other bytes
--- are 0.
+-- From $18 on: abbreviations, the length of the story, divided as packed addresses are, and the checksum; all other bytes are 0.
 unfoldable pub header_back : Scale → ℕ → List ℕ → List ℕ
 header_back scale abbreviations body =
-    flat_map number_bytes (abbreviations ∷ ((header_size + length body) / scale_number scale) ∷ checksum body ∷ [])
-    ++ replicate 34 0
+    flat_map number_bytes (abbreviations ∷ ((header_size + length body) / scale_number scale) ∷ checksum body ∷ []) ++ replicate 34 0
 
 -- the header of a story with the given bytes behind it, whose areas begin at the given places
 abbrev pub header : HeaderFields → Areas ℕ → List ℕ → List ℕ

@@ -19,10 +19,7 @@ base_of lengths scale name = begin scale name (end_of lengths scale header_size 
 
 -- the places where each area begins, and where the story ends
 abbrev pub map_of : Areas ℕ → Scale → MemoryMap
-map_of lengths scale = record {
-  bases = by_name (base_of lengths scale);
-  end = aligned scale (end_of lengths scale header_size order);
-}
+map_of lengths scale = record { bases = by_name (base_of lengths scale); end = aligned scale (end_of lengths scale header_size order) }
 
 -- the last address at which code may begin
 abbrev pub most_readable : ℕ

@@ -4,8 +4,7 @@ ghost use Rattle.inf_link.specs.Areas.{area_of, contents, lengths};
 
 use inf_area::{Area, AreaName};
 
-/// A value for each area of a story, in the order of the areas in it: the area itself, its length, or the place where it
-/// begins.
+/// A value for each area of a story, in the order of the areas in it: the area itself, its length, or the place where it begins.
 #[derive(Clone, Copy, Drop)]
 pub struct Areas<T> {
     pub low_strings: T,

@@ -42,8 +42,7 @@ impl<A: Area> Areas<A> {
         }
     }
 
-    /// Writes the numbers of fixups over their bytes, where areas begin at `bases` and the words of the targets are in
-    /// rising order.
+    /// Writes the numbers of fixups over their bytes, where areas begin at `bases` and the words of the targets are in rising order.
     pub fn fill_all(
         &mut self,
         fixups: &[Fixup],

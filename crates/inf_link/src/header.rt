@@ -69,8 +69,7 @@ fn append_front(
     out.extend_from_slice(&fields.serial)
 }
 
-/// Appends the header behind the serial number, of a story with the bytes `body` behind it, whose abbreviations begin at
-/// `abbreviations`.
+/// Appends the header behind the serial number, of a story with the bytes `body` behind it, whose abbreviations begin at `abbreviations`.
 #[tactic(auto, unfolding(crate::specs::Header::header_back))]
 fn append_back(
     out: &mut Vec<u8>,

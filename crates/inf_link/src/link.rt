@@ -113,9 +113,8 @@ impl<A: Area + Drop> Link<A> {
         }
     }
 
-    /// Returns the story. The call is refused first where code would begin at an address over 65,534, then where the story
-    /// would be longer than one of its version may be, then for want of memory. A fixup that does not lie within its area
-    /// is left out.
+    /// Returns the story. The call is refused first where code would begin at an address over 65,534, then where the story would be longer
+    /// than one of its version may be, then for want of memory. A fixup that does not lie within its area is left out.
     pub fn link(self) -> Result<Story, LinkFault>
         ensures bytes { IfOk result (λ s. s.bytes ≡ story (contents A.bytes self.areas) self.refs.list (lookup self.targets) self.fields) }
         ensures sizes { IfOk result (λ s. s.sizes ≡ sizes (contents A.bytes self.areas) self.fields s.bytes) }

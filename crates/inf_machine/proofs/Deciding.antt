@@ -26,12 +26,9 @@ module _ {A : Type 0} where
 
   pub decided_parts : (g : Grammar A) (k : Known) (rule : ℕ) → is_decided g k rule ≡ true → Decided g k rule
   decided_parts g k rule d =
-      let rows = g.rows_of rule in
-      let a = (all_beginnings g k rows == k.begins rule) in
-      let b = are_apart g k 0 rows in
+      let rows = g.rows_of rule in let a = (all_beginnings g k rows == k.begins rule) in let b = are_apart g k 0 rows in
       let c = (empty_rows k rows == (if k.is_empty rule then 1 else 0)) in
-      let three = and_parts ((a && b) && c) (are_sound g k rule rows) d in
-      let two = and_parts (a && b) c three.0 in
+      let three = and_parts ((a && b) && c) (are_sound g k rule rows) d in let two = and_parts (a && b) c three.0 in
       let one = and_parts a b two.0 in
       record {
         whole = eqb-true (all_beginnings g k rows) (k.begins rule) one.0;
@@ -48,8 +45,7 @@ module _ {A : Type 0} where
 
   pub sound_parts : (g : Grammar A) (k : Known) (rule : ℕ) (r : Row A) → is_sound g k rule r ≡ true → Sound g k rule r
   sound_parts g k rule r s =
-      let p = is_preferred g k rule r in
-      let f = is_followed g k (k.follows rule) r.parts in
+      let p = is_preferred g k rule r in let f = is_followed g k (k.follows rule) r.parts in
       let two = and_parts (p && f) (nat_lt (steps_through k r.parts) (k.steps rule)) s in
       let one = and_parts p f two.0 in
       record { preferred = one.0; followed = one.1; fewer = ltb-true (steps_through k r.parts) (k.steps rule) two.1 }
@@ -57,60 +53,57 @@ module _ {A : Type 0} where
   -- an atom that begins a row is none of those before which the row is not taken
   pub unless_of_begun : (g : Grammar A) (k : Known) (atom rule : ℕ) (r : Row A) → is_preferred g k rule r ≡ true →
       fits g k atom r.parts ≡ true → has r.unless atom ≡ false
-  unless_of_begun g k atom rule r p f = by_end (can_end k r.parts) (r.unless == 0) refl p
-    where
-      nothing : (r.unless == 0) ≡ true → has r.unless atom ≡ false
-      nothing e = ap (λ s. has s atom) (eqb-true r.unless 0 e) ∙ has_zero atom
+  unless_of_begun g k atom rule r p f = by_end (can_end k r.parts) (r.unless == 0) refl p where
+    nothing : (r.unless == 0) ≡ true → has r.unless atom ≡ false
+    nothing e = ap (λ s. has s atom) (eqb-true r.unless 0 e) ∙ has_zero atom
 
-      by_end : (c z : Bool) → (r.unless == 0) ≡ z →
-          (if c then (if z then bit_and (k.begins rule) (k.follows rule) == 0 else (beginning g k r.parts == 0) && is_within r.unless
-          (k.begins rule) && is_within (bit_and (k.begins rule) (k.follows rule)) r.unless) else z) ≡ true → has r.unless atom ≡ false
-      by_end c true e q = nothing e
-      by_end false false e q = cc
-      by_end true false e q =
-          let two = and_parts ((beginning g k r.parts == 0) && is_within r.unless (k.begins rule))
-          (is_within (bit_and (k.begins rule) (k.follows rule)) r.unless) q in
-          let one = and_parts (beginning g k r.parts == 0) (is_within r.unless (k.begins rule)) two.0 in
-          absurd (both_ways (has 0 atom) (has_zero atom)
-          (ap (λ s. has s atom) (sym (eqb-true (beginning g k r.parts) 0 one.0)) ∙ sym (fits_is_begun g k atom r.parts) ∙ f))
+    by_end : (c z : Bool) → (r.unless == 0) ≡ z →
+        (if c then (if z then bit_and (k.begins rule) (k.follows rule) == 0 else (beginning g k r.parts == 0) && is_within r.unless
+        (k.begins rule) && is_within (bit_and (k.begins rule) (k.follows rule)) r.unless) else z) ≡ true → has r.unless atom ≡ false
+    by_end c true e q = nothing e
+    by_end false false e q = cc
+    by_end true false e q =
+        let two = and_parts ((beginning g k r.parts == 0) && is_within r.unless (k.begins rule))
+        (is_within (bit_and (k.begins rule) (k.follows rule)) r.unless) q in
+        let one = and_parts (beginning g k r.parts == 0) (is_within r.unless (k.begins rule)) two.0 in
+        absurd (both_ways (has 0 atom) (has_zero atom)
+        (ap (λ s. has s atom) (sym (eqb-true (beginning g k r.parts) 0 one.0)) ∙ sym (fits_is_begun g k atom r.parts) ∙ f))
 
   pub unless_of_other : (g : Grammar A) (k : Known) (atom rule : ℕ) (r : Row A) → is_preferred g k rule r ≡ true →
       has (k.begins rule) atom ≡ false → has r.unless atom ≡ false
-  unless_of_other g k atom rule r p f = by_end (can_end k r.parts) (r.unless == 0) refl p
-    where
-      nothing : (r.unless == 0) ≡ true → has r.unless atom ≡ false
-      nothing e = ap (λ s. has s atom) (eqb-true r.unless 0 e) ∙ has_zero atom
+  unless_of_other g k atom rule r p f = by_end (can_end k r.parts) (r.unless == 0) refl p where
+    nothing : (r.unless == 0) ≡ true → has r.unless atom ≡ false
+    nothing e = ap (λ s. has s atom) (eqb-true r.unless 0 e) ∙ has_zero atom
 
-      by_end : (c z : Bool) → (r.unless == 0) ≡ z →
-          (if c then (if z then bit_and (k.begins rule) (k.follows rule) == 0 else (beginning g k r.parts == 0) && is_within r.unless
-          (k.begins rule) && is_within (bit_and (k.begins rule) (k.follows rule)) r.unless) else z) ≡ true → has r.unless atom ≡ false
-      by_end c true e q = nothing e
-      by_end false false e q = cc
-      by_end true false e q =
-          let two = and_parts ((beginning g k r.parts == 0) && is_within r.unless (k.begins rule))
-          (is_within (bit_and (k.begins rule) (k.follows rule)) r.unless) q in
-          let one = and_parts (beginning g k r.parts == 0) (is_within r.unless (k.begins rule)) two.0 in
-          false_from_ne_true (has r.unless atom) (λ u. both_ways (has (k.begins rule) atom) f
-          (has_within r.unless (k.begins rule) atom one.1 u))
+    by_end : (c z : Bool) → (r.unless == 0) ≡ z →
+        (if c then (if z then bit_and (k.begins rule) (k.follows rule) == 0 else (beginning g k r.parts == 0) && is_within r.unless
+        (k.begins rule) && is_within (bit_and (k.begins rule) (k.follows rule)) r.unless) else z) ≡ true → has r.unless atom ≡ false
+    by_end c true e q = nothing e
+    by_end false false e q = cc
+    by_end true false e q =
+        let two = and_parts ((beginning g k r.parts == 0) && is_within r.unless (k.begins rule))
+        (is_within (bit_and (k.begins rule) (k.follows rule)) r.unless) q in
+        let one = and_parts (beginning g k r.parts == 0) (is_within r.unless (k.begins rule)) two.0 in
+        false_from_ne_true (has r.unless atom) (λ u. both_ways (has (k.begins rule) atom) f
+        (has_within r.unless (k.begins rule) atom one.1 u))
 
   -- The atoms before which a row that can be empty is not taken include each that both begins its rule and may follow it.
   pub unless_of_both : (g : Grammar A) (k : Known) (atom rule : ℕ) (r : Row A) → is_preferred g k rule r ≡ true → can_end k r.parts ≡ true →
       has (k.begins rule) atom ≡ true → has (k.follows rule) atom ≡ true → has r.unless atom ≡ true
-  unless_of_both g k atom rule r p ends b f = by_end (can_end k r.parts) (r.unless == 0) ends p
-    where
-      both : has (bit_and (k.begins rule) (k.follows rule)) atom ≡ true
-      both = has_and (k.begins rule) (k.follows rule) atom ∙ ap (λ x. x && has (k.follows rule) atom) b ∙ f
+  unless_of_both g k atom rule r p ends b f = by_end (can_end k r.parts) (r.unless == 0) ends p where
+    both : has (bit_and (k.begins rule) (k.follows rule)) atom ≡ true
+    both = has_and (k.begins rule) (k.follows rule) atom ∙ ap (λ x. x && has (k.follows rule) atom) b ∙ f
 
-      by_end : (c z : Bool) → c ≡ true → (if c then (if z then bit_and (k.begins rule) (k.follows rule) == 0 else
-          (beginning g k r.parts == 0) && is_within r.unless (k.begins rule) && is_within (bit_and (k.begins rule) (k.follows rule))
-          r.unless) else z) ≡ true → has r.unless atom ≡ true
-      by_end false z e q = cc
-      by_end true true e q = absurd (both_ways (has 0 atom) (has_zero atom)
-          (ap (λ s. has s atom) (sym (eqb-true (bit_and (k.begins rule) (k.follows rule)) 0 q)) ∙ both))
-      by_end true false e q =
-          let two = and_parts ((beginning g k r.parts == 0) && is_within r.unless (k.begins rule))
-          (is_within (bit_and (k.begins rule) (k.follows rule)) r.unless) q in
-          has_within (bit_and (k.begins rule) (k.follows rule)) r.unless atom two.1 both
+    by_end : (c z : Bool) → c ≡ true → (if c then (if z then bit_and (k.begins rule) (k.follows rule) == 0 else
+        (beginning g k r.parts == 0) && is_within r.unless (k.begins rule) && is_within (bit_and (k.begins rule) (k.follows rule))
+        r.unless) else z) ≡ true → has r.unless atom ≡ true
+    by_end false z e q = cc
+    by_end true true e q = absurd (both_ways (has 0 atom) (has_zero atom)
+        (ap (λ s. has s atom) (sym (eqb-true (bit_and (k.begins rule) (k.follows rule)) 0 q)) ∙ both))
+    by_end true false e q =
+        let two = and_parts ((beginning g k r.parts == 0) && is_within r.unless (k.begins rule))
+        (is_within (bit_and (k.begins rule) (k.follows rule)) r.unless) q in
+        has_within (bit_and (k.begins rule) (k.follows rule)) r.unless atom two.1 both
 
   -- Lemmas about steps
 

@@ -41,16 +41,13 @@ module _ {A : Type 0} where
   ends g k d n (Symbol.Token class ∷ symbols) l e = cc
   ends g k d zero (Symbol.Act a ∷ symbols) l e = absurd (omega arith)
   ends g k d (suc n) (Symbol.Act a ∷ symbols) l e =
-      let on = ends g k d n symbols (omega arith) e in
-      (Did a ∷ on.0, action on.1)
+      let on = ends g k d n symbols (omega arith) e in (Did a ∷ on.0, action on.1)
   ends g k d zero (Symbol.Rule rule ∷ symbols) l e =
-      let of_rule = decided_parts g k rule (d rule) in
-      let both = and_parts (k.is_empty rule) (can_end k symbols) e in
+      let of_rule = decided_parts g k rule (d rule) in let both = and_parts (k.is_empty rule) (can_end k symbols) e in
       let r = some_is_empty k (g.rows_of rule) (omega (arith, of_rule.empties, cond-true {A = ℕ} (k.is_empty rule) 1 0 both.0)) in
       absurd (omega (arith, (sound_parts g k rule r.row (of_rule.sound r.row r.one)).fewer))
   ends g k d (suc n) (Symbol.Rule rule ∷ symbols) l e =
-      let of_rule = decided_parts g k rule (d rule) in
-      let both = and_parts (k.is_empty rule) (can_end k symbols) e in
+      let of_rule = decided_parts g k rule (d rule) in let both = and_parts (k.is_empty rule) (can_end k symbols) e in
       let r = some_is_empty k (g.rows_of rule) (omega (arith, of_rule.empties, cond-true {A = ℕ} (k.is_empty rule) 1 0 both.0)) in
       let less = (sound_parts g k rule r.row (of_rule.sound r.row r.one)).fewer in
       let whole : (if k.is_empty rule then steps_through k symbols else 0) ≡ steps_through k symbols =
@@ -75,16 +72,14 @@ module _ {A : Type 0} where
       by_empty false l = absurd (omega arith)
 
   pub sources_end : SourcesEnd A
-  sources_end g k rule atoms d = (onward, back)
-    where
-      onward : ((events : List (Event A)) × IsText g (Symbol.Rule rule ∷ []) atoms events) →
-          (r : Read A) × (read g k (Symbol.Rule rule ∷ []) atoms ≡ Some r) × (can_end k r.left ≡ true)
-      onward t =
-          let a = (texts_are_taken g k rule atoms t.0 d).0 t.1 in
-          (a.0, a.2, ended g k d a.4)
+  sources_end g k rule atoms d = (onward, back) where
+    onward : ((events : List (Event A)) × IsText g (Symbol.Rule rule ∷ []) atoms events) →
+        (r : Read A) × (read g k (Symbol.Rule rule ∷ []) atoms ≡ Some r) × (can_end k r.left ≡ true)
+    onward t =
+        let a = (texts_are_taken g k rule atoms t.0 d).0 t.1 in (a.0, a.2, ended g k d a.4)
 
-      back : ((r : Read A) × (read g k (Symbol.Rule rule ∷ []) atoms ≡ Some r) × (can_end k r.left ≡ true)) →
-          (events : List (Event A)) × IsText g (Symbol.Rule rule ∷ []) atoms events
-      back a =
-          let on = ends g k d (steps_through k a.0.left) a.0.left (omega arith) a.2 in
-          (a.0.events ++ on.0, (texts_are_taken g k rule atoms (a.0.events ++ on.0) d).1 (a.0, on.0, a.1, refl, on.1))
+    back : ((r : Read A) × (read g k (Symbol.Rule rule ∷ []) atoms ≡ Some r) × (can_end k r.left ≡ true)) →
+        (events : List (Event A)) × IsText g (Symbol.Rule rule ∷ []) atoms events
+    back a =
+        let on = ends g k d (steps_through k a.0.left) a.0.left (omega arith) a.2 in
+        (a.0.events ++ on.0, (texts_are_taken g k rule atoms (a.0.events ++ on.0) d).1 (a.0, on.0, a.1, refl, on.1))

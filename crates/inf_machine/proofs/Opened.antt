@@ -29,6 +29,5 @@ module _ {A : Type 0} where
       let same : work {A = A} k atom (Symbol.Rule rule ∷ symbols) ≡ work {A = A} k atom alone =
       ap (λ n. k.steps rule + n) (cond-true {A = ℕ} (has (k.begins rule) atom) 0 (work k atom symbols) b ∙ sym
       (cond-true {A = ℕ} (has (k.begins rule) atom) 0 0 b)) in
-      ap (λ n. stepped g k atom n (Symbol.Rule rule ∷ symbols)) same
-      ∙ stepped_before g k d atom (work {A = A} k atom alone) alone symbols
+      ap (λ n. stepped g k atom n (Symbol.Rule rule ∷ symbols)) same ∙ stepped_before g k d atom (work {A = A} k atom alone) alone symbols
       (or_left (has (k.begins rule) atom) (k.is_empty rule && false) b) (omega arith)

@@ -39,8 +39,7 @@ module _ {A : Type 0} where
 
   -- the walk goes on past an action
   pub on_act : (g : Grammar A) (k : Known) (atom : ℕ) (a : A) (all here rest : List (Symbol A)) (first now : List A) →
-      here ≡ Symbol.Act a ∷ rest →
-      IsOn g k atom all here first now → IsOn g k atom all rest first (now ++ (a ∷ []))
+      here ≡ Symbol.Act a ∷ rest → IsOn g k atom all here first now → IsOn g k atom all rest first (now ++ (a ∷ []))
   on_act g k atom a all here rest first now e on =
       let t = taken g k atom rest in
       record {
@@ -76,10 +75,8 @@ module _ {A : Type 0} where
       same_taken f =
           let row = passed_row g k (g.rows_of rule) in
           let fits_it : fits g k atom (Symbol.Rule rule ∷ rest) ≡ true = ap (fits g k atom) (sym e) ∙ on.same ∙ f in
-          sym (acts_taken g k atom row rest acts)
-          ∙ ap (λ parts. taken g k atom (parts ++ rest)) (way_past g k d atom rule not_it)
-          ∙ sym (way_on g k d atom rule rest fits_it).same
-          ∙ ap (taken g k atom) (sym e)
+          sym (acts_taken g k atom row rest acts) ∙ ap (λ parts. taken g k atom (parts ++ rest)) (way_past g k d atom rule not_it)
+          ∙ sym (way_on g k d atom rule rest fits_it).same ∙ ap (taken g k atom) (sym e)
 
   -- Lemmas about the end of the walk
 
@@ -140,8 +137,7 @@ top_is xs zero x p l e = absurd (omega arith)
 top_is xs (suc n) x p l e =
     let down : suc n - 1 ≡ n = omega arith in
     ap reverse (take-suc xs n x (omega arith) ∙ ap (λ y. take n xs ++ (y ∷ [])) (ap (λ m. get_or xs m x) (sym down) ∙ sym e))
-    ∙ reverse-append (take n xs) (x ∷ [])
-    ∙ ap (λ m. x ∷ reverse (take m xs)) (sym down)
+    ∙ reverse-append (take n xs) (x ∷ []) ∙ ap (λ m. x ∷ reverse (take m xs)) (sym down)
 
 -- the front of a list stays as it is where more is appended
 pub take_on : {X : Type 0} (first now more : List X) → take (length first) now ≡ first → take (length first) (now ++ more) ≡ first

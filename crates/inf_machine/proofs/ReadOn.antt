@@ -49,25 +49,22 @@ module _ {A : Type 0} where
 
   pub reads_one : (g : Grammar A) (k : Known) (symbols : List (Symbol A)) (atoms : List ℕ) (atom : ℕ) (left : List (Symbol A)) →
       OneMore g k symbols atoms left → fits g k atom left ≡ true → OneMore g k symbols (atoms ++ atom ∷ []) (taken g k atom left).left
-  reads_one g k symbols atoms atom left o f =
-      record {
-        r = record { events = o.r.events ++ (events_of n.actions atom ++ []); left = n.left };
-        is_read = read_append g k symbols atoms (atom ∷ []) ∙ ap (λ x. read_on g k x (atom ∷ [])) o.is_read
-            ∙ ap (λ b. behind o.r.events (cond b (behind (events_of n.actions atom) (read g k n.left [])) None)) fits_there;
-        leaves = ap (λ symbols. (taken g k atom symbols).left) o.leaves;
-      }
-    where
-      n : Taken A
-      n = taken g k atom o.r.left
+  reads_one g k symbols atoms atom left o f = record {
+    r = record { events = o.r.events ++ (events_of n.actions atom ++ []); left = n.left };
+    is_read = read_append g k symbols atoms (atom ∷ []) ∙ ap (λ x. read_on g k x (atom ∷ [])) o.is_read
+        ∙ ap (λ b. behind o.r.events (cond b (behind (events_of n.actions atom) (read g k n.left [])) None)) fits_there;
+    leaves = ap (λ symbols. (taken g k atom symbols).left) o.leaves;
+  } where
+    n : Taken A
+    n = taken g k atom o.r.left
 
-      fits_there : fits g k atom o.r.left ≡ true
-      fits_there = ap (fits g k atom) o.leaves ∙ f
+    fits_there : fits g k atom o.r.left ≡ true
+    fits_there = ap (fits g k atom) o.leaves ∙ f
 
   -- a token that does not fit is not read
   pub reads_none : (g : Grammar A) (k : Known) (symbols : List (Symbol A)) (atoms : List ℕ) (atom : ℕ) (left : List (Symbol A)) →
       OneMore g k symbols atoms left → fits g k atom left ≡ false → read g k symbols (atoms ++ atom ∷ []) ≡ None
   reads_none g k symbols atoms atom left o f =
       let n = taken g k atom o.r.left in
-      read_append g k symbols atoms (atom ∷ [])
-      ∙ ap (λ x. read_on g k x (atom ∷ [])) o.is_read
+      read_append g k symbols atoms (atom ∷ []) ∙ ap (λ x. read_on g k x (atom ∷ [])) o.is_read
       ∙ ap (λ b. behind o.r.events (cond b (behind (events_of n.actions atom) (read g k n.left [])) None)) (ap (fits g k atom) o.leaves ∙ f)

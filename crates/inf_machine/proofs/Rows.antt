@@ -69,12 +69,10 @@ module _ {A : Type 0} where
       cond-true (fits g k atom r.parts) r.parts (row_for g k atom other rows) h
   begun_is_chosen g k atom seen other (y ∷ rows) r (later m) apart h =
       let here = and_parts (bit_and seen (beginning g k y.parts) == 0) (are_apart g k (bit_or seen (beginning g k y.parts)) rows) apart in
-      let not_here : fits g k atom y.parts ≡ false = false_from_ne_true (fits g k atom y.parts) (λ f.
-      both_ways (fits g k atom r.parts)
+      let not_here : fits g k atom y.parts ≡ false = false_from_ne_true (fits g k atom y.parts) (λ f. both_ways (fits g k atom r.parts)
       (seen_begins_none g k atom (bit_or seen (beginning g k y.parts)) rows r m here.1
       (has_or seen (beginning g k y.parts) atom ∙ or_right (has seen atom) (has (beginning g k y.parts) atom)
-      (sym (fits_is_begun g k atom y.parts) ∙ f)))
-      h) in
+      (sym (fits_is_begun g k atom y.parts) ∙ f))) h) in
       cond-false (fits g k atom y.parts) y.parts (row_for g k atom other rows) not_here
       ∙ begun_is_chosen g k atom (bit_or seen (beginning g k y.parts)) other rows r m here.1 h
 
@@ -128,27 +126,26 @@ module _ {A : Type 0} where
   pub some_is_begun : (g : Grammar A) (k : Known) (atom : ℕ) (other : List (Symbol A)) (rows : List (Row A)) →
       has (all_beginnings g k rows) atom ≡ true → Begun g k atom rows (row_for g k atom other rows)
   some_is_begun g k atom other [] h = absurd (both_ways (has 0 atom) (has_zero atom) h)
-  some_is_begun g k atom other (r ∷ rows) h = by_test (λ e. some_is_begun g k atom other rows e) (fits g k atom r.parts) refl
-    where
-      rest : fits g k atom r.parts ≡ false → has (all_beginnings g k rows) atom ≡ true
-      rest f = elim (or_cases (has (beginning g k r.parts) atom) (has (all_beginnings g k rows) atom)
-          (sym (has_or (beginning g k r.parts) (all_beginnings g k rows) atom) ∙ h)) [
-            | inl b ↦ absurd (both_ways (fits g k atom r.parts) f (fits_is_begun g k atom r.parts ∙ b))
-            | inr b ↦ b
-          ]
+  some_is_begun g k atom other (r ∷ rows) h = by_test (λ e. some_is_begun g k atom other rows e) (fits g k atom r.parts) refl where
+    rest : fits g k atom r.parts ≡ false → has (all_beginnings g k rows) atom ≡ true
+    rest f = elim (or_cases (has (beginning g k r.parts) atom) (has (all_beginnings g k rows) atom)
+        (sym (has_or (beginning g k r.parts) (all_beginnings g k rows) atom) ∙ h)) [
+          | inl b ↦ absurd (both_ways (fits g k atom r.parts) f (fits_is_begun g k atom r.parts ∙ b))
+          | inr b ↦ b
+        ]
 
-      by_test : (has (all_beginnings g k rows) atom ≡ true → Begun g k atom rows (row_for g k atom other rows)) → (b : Bool) →
-          fits g k atom r.parts ≡ b → Begun g k atom (r ∷ rows) (row_for g k atom other (r ∷ rows))
-      by_test in_rest true e =
-          record { row = r; one = first; is = cond-true (fits g k atom r.parts) r.parts (row_for g k atom other rows) e; fits_it = e }
-      by_test in_rest false e =
-          let b = in_rest (rest e) in
-          record {
-            row = b.row;
-            one = later b.one;
-            is = cond-false (fits g k atom r.parts) r.parts (row_for g k atom other rows) e ∙ b.is;
-            fits_it = b.fits_it;
-          }
+    by_test : (has (all_beginnings g k rows) atom ≡ true → Begun g k atom rows (row_for g k atom other rows)) → (b : Bool) →
+        fits g k atom r.parts ≡ b → Begun g k atom (r ∷ rows) (row_for g k atom other (r ∷ rows))
+    by_test in_rest true e =
+        record { row = r; one = first; is = cond-true (fits g k atom r.parts) r.parts (row_for g k atom other rows) e; fits_it = e }
+    by_test in_rest false e =
+        let b = in_rest (rest e) in
+        record {
+          row = b.row;
+          one = later b.one;
+          is = cond-false (fits g k atom r.parts) r.parts (row_for g k atom other rows) e ∙ b.is;
+          fits_it = b.fits_it;
+        }
 
   -- a row that can be empty is counted among those that can
   pub empty_counts : (k : Known) (rows : List (Row A)) (r : Row A) → IsOneOf r rows → can_end k r.parts ≡ true → 1 ≤ empty_rows k rows
@@ -175,11 +172,10 @@ module _ {A : Type 0} where
   -- where a row can be empty the empty row is one that can
   pub some_is_empty : (k : Known) (rows : List (Row A)) → 1 ≤ empty_rows k rows → Empty k rows (empty_row k rows)
   some_is_empty k [] n = absurd (omega arith)
-  some_is_empty k (r ∷ rows) n = by_test (λ e. some_is_empty k rows e) (can_end k r.parts) refl
-    where
-      by_test : (1 ≤ empty_rows k rows → Empty k rows (empty_row k rows)) → (b : Bool) → can_end k r.parts ≡ b →
-          Empty k (r ∷ rows) (empty_row k (r ∷ rows))
-      by_test in_rest true e = record { row = r; one = first; is = cond-true (can_end k r.parts) r.parts (empty_row k rows) e; ends = e }
-      by_test in_rest false e =
-          let m = in_rest (omega (arith, cond-false {A = ℕ} (can_end k r.parts) 1 0 e)) in
-          record { row = m.row; one = later m.one; is = cond-false (can_end k r.parts) r.parts (empty_row k rows) e ∙ m.is; ends = m.ends }
+  some_is_empty k (r ∷ rows) n = by_test (λ e. some_is_empty k rows e) (can_end k r.parts) refl where
+    by_test : (1 ≤ empty_rows k rows → Empty k rows (empty_row k rows)) → (b : Bool) → can_end k r.parts ≡ b →
+        Empty k (r ∷ rows) (empty_row k (r ∷ rows))
+    by_test in_rest true e = record { row = r; one = first; is = cond-true (can_end k r.parts) r.parts (empty_row k rows) e; ends = e }
+    by_test in_rest false e =
+        let m = in_rest (omega (arith, cond-false {A = ℕ} (can_end k r.parts) 1 0 e)) in
+        record { row = m.row; one = later m.one; is = cond-false (can_end k r.parts) r.parts (empty_row k rows) e ∙ m.is; ends = m.ends }

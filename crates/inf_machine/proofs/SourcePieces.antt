@@ -54,16 +54,15 @@ module _ {A : Type 0} where
   rule_not_empty : (g : Grammar A) (k : Known) → IsDecided g k → (n rule : ℕ) → closes g (Some (Symbol.Rule rule)) n ≡ true →
       k.is_empty rule ≡ false
   rule_not_empty g k d zero rule c = cc
-  rule_not_empty g k d (suc n) rule c = by_empty (λ r e. rule_not_empty g k d n r e) (k.is_empty rule) refl
-    where
-      by_empty : ((r : ℕ) → closes g (Some (Symbol.Rule r)) n ≡ true → k.is_empty r ≡ false) → (b : Bool) → k.is_empty rule ≡ b →
-          k.is_empty rule ≡ false
-      by_empty h false e = e
-      by_empty h true e =
-          let of_rule = decided_parts g k rule (d rule) in
-          let r = some_is_empty k (g.rows_of rule) (omega (arith, of_rule.empties, cond-true {A = ℕ} (k.is_empty rule) 1 0 e)) in
-          absurd (both_ways (can_end k r.row.parts)
-          (not_ended g k n h r.row.parts (each_row (λ parts. closes g (last_symbol parts) n) (g.rows_of rule) r.row r.one c)) r.ends)
+  rule_not_empty g k d (suc n) rule c = by_empty (λ r e. rule_not_empty g k d n r e) (k.is_empty rule) refl where
+    by_empty : ((r : ℕ) → closes g (Some (Symbol.Rule r)) n ≡ true → k.is_empty r ≡ false) → (b : Bool) → k.is_empty rule ≡ b →
+        k.is_empty rule ≡ false
+    by_empty h false e = e
+    by_empty h true e =
+        let of_rule = decided_parts g k rule (d rule) in
+        let r = some_is_empty k (g.rows_of rule) (omega (arith, of_rule.empties, cond-true {A = ℕ} (k.is_empty rule) 1 0 e)) in
+        absurd (both_ways (can_end k r.row.parts)
+        (not_ended g k n h r.row.parts (each_row (λ parts. closes g (last_symbol parts) n) (g.rows_of rule) r.row r.one c)) r.ends)
 
   closed_is_open : (g : Grammar A) (k : Known) → IsDecided g k → (symbols : List (Symbol A)) → Closed g symbols → can_end k symbols ≡ false
   closed_is_open g k d symbols c = not_ended g k c.0 (rule_not_empty g k d c.0) symbols c.1
@@ -94,8 +93,7 @@ module _ {A : Type 0} where
       read g k symbols atoms ≡ Some r → fits g k atom r.left ≡ true → OneMore g k symbols atoms atom (taken g k atom r.left).left
   one_more g k [] atom symbols r e f =
       let same : record { events = []; left = symbols } ≡ r = cc in
-      subst (λ q. fits g k atom q.left ≡ true → OneMore g k symbols [] atom (taken g k atom q.left).left) same
-      (λ h. record {
+      subst (λ q. fits g k atom q.left ≡ true → OneMore g k symbols [] atom (taken g k atom q.left).left) same (λ h. record {
         r = record { events = events_of (taken g k atom symbols).actions atom ++ []; left = (taken g k atom symbols).left };
         are = cond-true (fits g k atom symbols) (behind (events_of (taken g k atom symbols).actions atom)
             (read g k (taken g k atom symbols).left [])) None h;
@@ -115,8 +113,7 @@ module _ {A : Type 0} where
       by_fit on false h o i q = cc
       by_fit on true h None i q = cc
       by_fit on true h (Some p) i q =
-          let same : p.left ≡ r.left = ap_left (cc) in
-          let m = on p i (ap (fits g k atom) same ∙ f) in
+          let same : p.left ≡ r.left = ap_left (cc) in let m = on p i (ap (fits g k atom) same ∙ f) in
           record {
             r = record { events = es ++ m.r.events; left = m.r.left };
             are = cond-true (fits g k x symbols) (behind es (read g k (taken g k x symbols).left (atoms ++ atom ∷ []))) None h
@@ -161,48 +158,45 @@ module _ {A : Type 0} where
       is_open front r e o = (
         (bad_tokens_begin_nothing g k rule front d).0 (ap is_some e),
         λ t. let a = (sources_end g k rule front d).0 t in no_end a.0 a.1 a.2,
-      )
-        where
-          no_end : (q : Read A) → read g k (Symbol.Rule rule ∷ []) front ≡ Some q → can_end k q.left ≡ true → ⊥
-          no_end q i h =
-              let same : r ≡ q = some_same (sym e ∙ i) in
-              both_ways (can_end k q.left) (subst (λ t. can_end k t.left ≡ false) same (closed_is_open g k d r.left o)) h
-            where
-              some_same : Some r ≡ Some q → r ≡ q
-              some_same j = cc
+      ) where
+        no_end : (q : Read A) → read g k (Symbol.Rule rule ∷ []) front ≡ Some q → can_end k q.left ≡ true → ⊥
+        no_end q i h =
+            let same : r ≡ q = some_same (sym e ∙ i) in
+            both_ways (can_end k q.left) (subst (λ t. can_end k t.left ≡ false) same (closed_is_open g k d r.left o)) h
+          where
+            some_same : Some r ≡ Some q → r ≡ q
+            some_same j = cc
 
       go : (n : ℕ) (front rest : List ℕ) (r : Read A) → length rest ≤ n → read g k (Symbol.Rule rule ∷ []) front ≡ Some r →
-          Closed g r.left →
-          (pieces : List Piece) × ArePieces g rule further pieces (front ++ rest)
+          Closed g r.left → (pieces : List Piece) × ArePieces g rule further pieces (front ++ rest)
       go n [] [] r l e o = ([], ended)
       go n (x ∷ front) [] r l e o = (
         Cut (x ∷ front) ∷ [],
         subst (λ xs. ArePieces g rule further (Cut (x ∷ front) ∷ []) xs) (sym (append-nil (x ∷ front))) (cut (is_open (x ∷ front) r e o)),
       )
       go zero front (a ∷ rest) r l e o = absurd (omega arith)
-      go (suc n) front (a ∷ rest) r l e o = by_fit (λ f q s i j m. go n f q s i j m) (fits g k a r.left) refl
-        where
-          by_fit : ((f q : List ℕ) (s : Read A) → length q ≤ n → read g k (Symbol.Rule rule ∷ []) f ≡ Some s → Closed g s.left →
-              (pieces : List Piece) × ArePieces g rule further pieces (f ++ q)) → (b : Bool) → fits g k a r.left ≡ b → (pieces : List Piece)
-              × ArePieces g rule further pieces (front ++ a ∷ rest)
-          by_fit on false f =
-              let on_from = on [] (drop (further front a rest) rest) (record { events = []; left = Symbol.Rule rule ∷ [] })
-              (omega (arith, l, length-drop (further front a rest) rest)) refl (deep, c) in
-              let none : Begins g (Symbol.Rule rule ∷ []) (front ++ a ∷ []) → ⊥ =
-              λ h. both_ways (is_some (read g k (Symbol.Rule rule ∷ []) (front ++ a ∷ [])))
-              (ap is_some (no_more g k front a (Symbol.Rule rule ∷ []) r e f))
-              ((bad_tokens_begin_nothing g k rule (front ++ a ∷ []) d).1 h) in
-              (Bad front a (take (further front a rest) rest) ∷ on_from.0, bad front a rest (is_open front r e o) none on_from.1)
-          by_fit on true f = by_left (one_more g k front a (Symbol.Rule rule ∷ []) r e f) (closed_left g k d a (work k a r.left) r.left f o)
-            where
-              by_left : OneMore g k (Symbol.Rule rule ∷ []) front a (taken g k a r.left).left →
-                  (((taken g k a r.left).left ≡ []) ⊎ Closed g (taken g k a r.left).left) →
-                  (pieces : List Piece) × ArePieces g rule further pieces (front ++ a ∷ rest)
-              by_left m (inl h) =
-                  let on_from = on [] rest (record { events = []; left = Symbol.Rule rule ∷ [] }) (omega arith) refl (deep, c) in
-                  let text : IsPiece g rule (front ++ a ∷ []) =
-                  (sources_end g k rule (front ++ a ∷ []) d).1 (m.r, m.are, ap (can_end k) (m.same ∙ h)) in
-                  (Whole (front ++ a ∷ []) ∷ on_from.0, whole front a rest (is_open front r e o) text on_from.1)
-              by_left m (inr h) =
-                  let on_from = on (front ++ a ∷ []) rest m.r (omega arith) m.are (subst (Closed g) (sym m.same) h) in
-                  (on_from.0, subst (λ xs. ArePieces g rule further on_from.0 xs) (append_assoc front (a ∷ []) rest) on_from.1)
+      go (suc n) front (a ∷ rest) r l e o = by_fit (λ f q s i j m. go n f q s i j m) (fits g k a r.left) refl where
+        by_fit : ((f q : List ℕ) (s : Read A) → length q ≤ n → read g k (Symbol.Rule rule ∷ []) f ≡ Some s → Closed g s.left →
+            (pieces : List Piece) × ArePieces g rule further pieces (f ++ q)) → (b : Bool) → fits g k a r.left ≡ b → (pieces : List Piece)
+            × ArePieces g rule further pieces (front ++ a ∷ rest)
+        by_fit on false f =
+            let on_from = on [] (drop (further front a rest) rest) (record { events = []; left = Symbol.Rule rule ∷ [] })
+            (omega (arith, l, length-drop (further front a rest) rest)) refl (deep, c) in
+            let none : Begins g (Symbol.Rule rule ∷ []) (front ++ a ∷ []) → ⊥ =
+            λ h. both_ways (is_some (read g k (Symbol.Rule rule ∷ []) (front ++ a ∷ [])))
+            (ap is_some (no_more g k front a (Symbol.Rule rule ∷ []) r e f))
+            ((bad_tokens_begin_nothing g k rule (front ++ a ∷ []) d).1 h) in
+            (Bad front a (take (further front a rest) rest) ∷ on_from.0, bad front a rest (is_open front r e o) none on_from.1)
+        by_fit on true f = by_left (one_more g k front a (Symbol.Rule rule ∷ []) r e f) (closed_left g k d a (work k a r.left) r.left f o)
+          where
+            by_left : OneMore g k (Symbol.Rule rule ∷ []) front a (taken g k a r.left).left →
+                (((taken g k a r.left).left ≡ []) ⊎ Closed g (taken g k a r.left).left) →
+                (pieces : List Piece) × ArePieces g rule further pieces (front ++ a ∷ rest)
+            by_left m (inl h) =
+                let on_from = on [] rest (record { events = []; left = Symbol.Rule rule ∷ [] }) (omega arith) refl (deep, c) in
+                let text : IsPiece g rule (front ++ a ∷ []) =
+                (sources_end g k rule (front ++ a ∷ []) d).1 (m.r, m.are, ap (can_end k) (m.same ∙ h)) in
+                (Whole (front ++ a ∷ []) ∷ on_from.0, whole front a rest (is_open front r e o) text on_from.1)
+            by_left m (inr h) =
+                let on_from = on (front ++ a ∷ []) rest m.r (omega arith) m.are (subst (Closed g) (sym m.same) h) in
+                (on_from.0, subst (λ xs. ArePieces g rule further on_from.0 xs) (append_assoc front (a ∷ []) rest) on_from.1)

@@ -24,8 +24,7 @@ put_row [] rule row r a = inl refl
 put_row (x ∷ rows) zero row zero a = inr (refl, refl)
 put_row (x ∷ rows) zero row (suc r) a = inl refl
 put_row (x ∷ rows) (suc rule) row zero a = inl refl
-put_row (x ∷ rows) (suc rule) row (suc r) a =
-    elim (put_row rows rule row r a)
+put_row (x ∷ rows) (suc rule) row (suc r) a = elim (put_row rows rule row r a)
     as (λ s. (step_of (set rows rule row) r a ≡ step_of rows r a) ⊎ ((suc r ≡ suc rule) × (step_of (set rows rule row) r a ≡ step_at row a))) [
       | inl e ↦ inl e
       | inr e ↦ inr (ap suc e.0, e.1)
@@ -35,17 +34,14 @@ put_row (x ∷ rows) (suc rule) row (suc r) a =
 pub put_in_row : (rows : List (List Step)) (rule atom : ℕ) (step : Step) (row : List Step) →
     ((a : ℕ) → (step_at row a ≡ step_of rows rule a) ⊎ ((a ≡ atom) × (step_at row a ≡ step))) → (r a : ℕ) →
     (step_of (set rows rule row) r a ≡ step_of rows r a) ⊎ ((r ≡ rule) × (a ≡ atom) × (step_of (set rows rule row) r a ≡ step))
-put_in_row rows rule atom step row put r a =
-    elim (put_row rows rule row r a)
-    as (λ s. (step_of (set rows rule row) r a ≡ step_of rows r a)
+put_in_row rows rule atom step row put r a = elim (put_row rows rule row r a) as (λ s. (step_of (set rows rule row) r a ≡ step_of rows r a)
     ⊎ ((r ≡ rule) × (a ≡ atom) × (step_of (set rows rule row) r a ≡ step))) [
       | inl e ↦ inl e
       | inr e ↦ in_it e.0 e.1 (put a)
     ]
   where
     in_it : r ≡ rule → step_of (set rows rule row) r a ≡ step_at row a →
-        (step_at row a ≡ step_of rows rule a) ⊎ ((a ≡ atom) × (step_at row a ≡ step)) →
-        (step_of (set rows rule row) r a ≡ step_of rows r a)
+        (step_at row a ≡ step_of rows rule a) ⊎ ((a ≡ atom) × (step_at row a ≡ step)) → (step_of (set rows rule row) r a ≡ step_of rows r a)
         ⊎ ((r ≡ rule) × (a ≡ atom) × (step_of (set rows rule row) r a ≡ step))
     in_it same at (inl e) = inl (at ∙ e ∙ ap (λ n. step_of rows n a) (sym same))
     in_it same at (inr e) = inr (same, e.0, at ∙ e.1)
@@ -55,10 +51,8 @@ pub put_among : (old rows : List (List Step)) (rule atom : ℕ) (step : Step) (r
     row ≡ get_or rows rule row → ((r a : ℕ) → step_of rows r a ≡ step_of old r a) →
     ((a : ℕ) → (step_at now a ≡ step_at row a) ⊎ ((a ≡ atom) × (step_at now a ≡ step))) → (r a : ℕ) →
     (step_of (set rows rule now) r a ≡ step_of old r a) ⊎ ((r ≡ rule) × (a ≡ atom) × (step_of (set rows rule now) r a ≡ step))
-put_among old rows rule atom step row now l at same put r a =
-    elim (put_in_row rows rule atom step now in_row r a)
-    as (λ s. (step_of (set rows rule now) r a ≡ step_of old r a)
-    ⊎ ((r ≡ rule) × (a ≡ atom) × (step_of (set rows rule now) r a ≡ step))) [
+put_among old rows rule atom step row now l at same put r a = elim (put_in_row rows rule atom step now in_row r a)
+    as (λ s. (step_of (set rows rule now) r a ≡ step_of old r a) ⊎ ((r ≡ rule) × (a ≡ atom) × (step_of (set rows rule now) r a ≡ step))) [
       | inl e ↦ inl (e ∙ same r a)
       | inr e ↦ inr e
     ]
@@ -67,12 +61,10 @@ put_among old rows rule atom step row now l at same put r a =
     here n = ap (λ o. step_at (unwrap_or o []) n) (sym (slice_get_read rows (length rows) rule row refl l at))
 
     in_row : (n : ℕ) → (step_at now n ≡ step_of rows rule n) ⊎ ((n ≡ atom) × (step_at now n ≡ step))
-    in_row n =
-        elim (put n)
-        as (λ s. (step_at now n ≡ step_of rows rule n) ⊎ ((n ≡ atom) × (step_at now n ≡ step))) [
-          | inl e ↦ inl (e ∙ here n)
-          | inr e ↦ inr e
-        ]
+    in_row n = elim (put n) as (λ s. (step_at now n ≡ step_of rows rule n) ⊎ ((n ≡ atom) × (step_at now n ≡ step))) [
+      | inl e ↦ inl (e ∙ here n)
+      | inr e ↦ inr e
+    ]
 
 -- Lemmas about openings
 
@@ -109,13 +101,12 @@ module _ {A : Type 0} where
   pub all_mean_put : (g : Grammar A) (k : Known) (made : List (ℕ × ℕ)) (rows now : List (List Step)) (rule atom : ℕ) (step : Step) →
       AllMean g k made rows → Means g k made rule atom step →
       ((r a : ℕ) → (step_of now r a ≡ step_of rows r a) ⊎ ((r ≡ rule) × (a ≡ atom) × (step_of now r a ≡ step))) → AllMean g k made now
-  all_mean_put g k made rows now rule atom step all means put r a met = by_place (put r a)
-    where
-      by_place : (step_of now r a ≡ step_of rows r a) ⊎ ((r ≡ rule) × (a ≡ atom) × (step_of now r a ≡ step)) →
-          Means g k made r a (step_of now r a)
-      by_place (inl e) = subst (Means g k made r a) (sym e) (all r a (ap is_kept (sym e) ∙ met))
-      by_place (inr e) = subst (Means g k made r a) (sym e.2)
-          (subst (λ n. Means g k made n a step) (sym e.0) (subst (λ n. Means g k made rule n step) (sym e.1) means))
+  all_mean_put g k made rows now rule atom step all means put r a met = by_place (put r a) where
+    by_place : (step_of now r a ≡ step_of rows r a) ⊎ ((r ≡ rule) × (a ≡ atom) × (step_of now r a ≡ step)) →
+        Means g k made r a (step_of now r a)
+    by_place (inl e) = subst (Means g k made r a) (sym e) (all r a (ap is_kept (sym e) ∙ met))
+    by_place (inr e) = subst (Means g k made r a) (sym e.2)
+        (subst (λ n. Means g k made n a step) (sym e.0) (subst (λ n. Means g k made rule n step) (sym e.1) means))
 
   -- The walk at a rule, which is the last of the symbols below a place
 

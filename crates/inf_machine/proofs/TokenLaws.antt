@@ -23,8 +23,7 @@ module _ {A : Type 0} where
   takes_all g k d symbols [] s {events} {left} l =
       record { r = record { events = []; left = symbols }; rest = events; are = refl; same = refl; leads = l }
   takes_all g k d symbols (atom ∷ atoms) s l =
-      let o = leads_only g k d l s in
-      let t = taken g k atom symbols in
+      let o = leads_only g k d l s in let t = taken g k atom symbols in
       let on = takes_all g k d t.left atoms (spaced_left g k d atom (work k atom symbols) symbols o.fits_here s) o.leads in
       let es = events_of t.actions atom in
       record {
@@ -72,27 +71,24 @@ module _ {A : Type 0} where
   some_read None e = cc
 
   pub bad_tokens_begin_nothing : BadTokensBeginNothing A
-  bad_tokens_begin_nothing g k rule atoms d = (onward, back)
-    where
-      onward : is_some (read g k (Symbol.Rule rule ∷ []) atoms) ≡ true → Begins g (Symbol.Rule rule ∷ []) atoms
-      onward e =
-          let r = some_read (read g k (Symbol.Rule rule ∷ []) atoms) e in
-          (r.0.events ++ [], r.0.left, all_lead g k d (Symbol.Rule rule ∷ []) atoms r.0 r.1 here)
+  bad_tokens_begin_nothing g k rule atoms d = (onward, back) where
+    onward : is_some (read g k (Symbol.Rule rule ∷ []) atoms) ≡ true → Begins g (Symbol.Rule rule ∷ []) atoms
+    onward e =
+        let r = some_read (read g k (Symbol.Rule rule ∷ []) atoms) e in
+        (r.0.events ++ [], r.0.left, all_lead g k d (Symbol.Rule rule ∷ []) atoms r.0 r.1 here)
 
-      back : Begins g (Symbol.Rule rule ∷ []) atoms → is_some (read g k (Symbol.Rule rule ∷ []) atoms) ≡ true
-      back b = ap is_some (takes_all g k d (Symbol.Rule rule ∷ []) atoms (first_is_spaced g k rule) b.2).are
+    back : Begins g (Symbol.Rule rule ∷ []) atoms → is_some (read g k (Symbol.Rule rule ∷ []) atoms) ≡ true
+    back b = ap is_some (takes_all g k d (Symbol.Rule rule ∷ []) atoms (first_is_spaced g k rule) b.2).are
 
   pub texts_are_taken : TextsAreTaken A
-  texts_are_taken g k rule atoms events d = (onward, back)
-    where
-      onward : IsText g (Symbol.Rule rule ∷ []) atoms events →
-          (r : Read A) × (rest : List (Event A)) × (read g k (Symbol.Rule rule ∷ []) atoms ≡ Some r)
-          × (events ≡ r.events ++ rest) × IsText g r.left [] rest
-      onward t =
-          let a = takes_all g k d (Symbol.Rule rule ∷ []) atoms (first_is_spaced g k rule) t in
-          (a.r, a.rest, a.are, a.same, a.leads)
+  texts_are_taken g k rule atoms events d = (onward, back) where
+    onward : IsText g (Symbol.Rule rule ∷ []) atoms events →
+        (r : Read A) × (rest : List (Event A)) × (read g k (Symbol.Rule rule ∷ []) atoms ≡ Some r)
+        × (events ≡ r.events ++ rest) × IsText g r.left [] rest
+    onward t =
+        let a = takes_all g k d (Symbol.Rule rule ∷ []) atoms (first_is_spaced g k rule) t in
+        (a.r, a.rest, a.are, a.same, a.leads)
 
-      back : ((r : Read A) × (rest : List (Event A)) × (read g k (Symbol.Rule rule ∷ []) atoms ≡ Some r) ×
-          (events ≡ r.events ++ rest) × IsText g
-          r.left [] rest) → IsText g (Symbol.Rule rule ∷ []) atoms events
-      back t = subst (λ es. IsText g (Symbol.Rule rule ∷ []) atoms es) (sym t.3) (all_lead g k d (Symbol.Rule rule ∷ []) atoms t.0 t.2 t.4)
+    back : ((r : Read A) × (rest : List (Event A)) × (read g k (Symbol.Rule rule ∷ []) atoms ≡ Some r) ×
+        (events ≡ r.events ++ rest) × IsText g r.left [] rest) → IsText g (Symbol.Rule rule ∷ []) atoms events
+    back t = subst (λ es. IsText g (Symbol.Rule rule ∷ []) atoms es) (sym t.3) (all_lead g k d (Symbol.Rule rule ∷ []) atoms t.0 t.2 t.4)

@@ -21,12 +21,10 @@ module _ {A : Type 0} where
   passed : (g : Grammar A) (k : Known) → IsDecided g k → (atom rule : ℕ) → has (k.begins rule) atom ≡ false → k.is_empty rule ≡ true →
       Passed g k atom rule
   passed g k d atom rule not_it empty =
-      let rows = g.rows_of rule in
-      let of_rule = decided_parts g k rule (d rule) in
+      let rows = g.rows_of rule in let of_rule = decided_parts g k rule (d rule) in
       let none = ap (λ s. has s atom) of_rule.whole ∙ not_it in
       let counted : 1 ≤ empty_rows k rows = omega (arith, of_rule.empties, cond-true {A = ℕ} (k.is_empty rule) 1 0 empty) in
-      let r = some_is_empty k rows counted in
-      let sound = sound_parts g k rule r.row (of_rule.sound r.row r.one) in
+      let r = some_is_empty k rows counted in let sound = sound_parts g k rule r.row (of_rule.sound r.row r.one) in
       let unfit : fits g k atom r.row.parts ≡ false = false_from_ne_true (fits g k atom r.row.parts)
       (λ b. both_ways (has (k.begins rule) atom) not_it
       (ap (λ s. has s atom) (sym of_rule.whole) ∙ begins_all g k atom rows r.row r.one b)) in
@@ -60,8 +58,7 @@ module _ {A : Type 0} where
       or_right (has (k.begins rule) atom) (k.is_empty rule && fits g k atom (symbols ++ rest))
       (and_from (k.is_empty rule) (fits g k atom (symbols ++ rest)) ends.0 fits_behind) in
       let p = passed g k d atom rule none.0 ends.0 in
-      taken_row g k d atom rule (symbols ++ rest) fits_here
-      ∙ ap (λ parts. taken g k atom (parts ++ (symbols ++ rest))) p.is
+      taken_row g k d atom rule (symbols ++ rest) fits_here ∙ ap (λ parts. taken g k atom (parts ++ (symbols ++ rest))) p.is
       ∙ silent_passes g k d atom n empty (symbols ++ rest) still.0 p.ends p.not_begun fits_behind
       ∙ silent_passes g k d atom (suc n) symbols rest still.1 ends.1 none.1 f
 
@@ -108,27 +105,26 @@ module _ {A : Type 0} where
 
   pub way_on : (g : Grammar A) (k : Known) → IsDecided g k → (atom rule : ℕ) (symbols : List (Symbol A)) →
       fits g k atom (Symbol.Rule rule ∷ symbols) ≡ true → Way g k atom rule symbols
-  way_on g k d atom rule symbols f = by_begun (has (k.begins rule) atom) refl
-    where
-      rows : List (Row A)
-      rows = g.rows_of rule
+  way_on g k d atom rule symbols f = by_begun (has (k.begins rule) atom) refl where
+    rows : List (Row A)
+    rows = g.rows_of rule
 
-      of_rule : Decided g k rule
-      of_rule = decided_parts g k rule (d rule)
+    of_rule : Decided g k rule
+    of_rule = decided_parts g k rule (d rule)
 
-      by_silent : has (k.begins rule) atom ≡ false → way g k atom rule ≡ passed_row g k rows → (b : Bool) →
-          is_silent g k depth (empty_row k rows) ≡ b → Way g k atom rule symbols
-      by_silent not_it e true s =
-          as_nothing g k d atom rule symbols f not_it s (e ∙ cond-true (is_silent g k depth (empty_row k rows)) [] (empty_row k rows) s)
-      by_silent not_it e false s = as_chosen g k d atom rule symbols f
-          (e ∙ cond-false (is_silent g k depth (empty_row k rows)) [] (empty_row k rows) s ∙ sym
-          (none_chooses_other g k atom (empty_row k rows) rows (ap (λ s. has s atom) of_rule.whole ∙ not_it)))
+    by_silent : has (k.begins rule) atom ≡ false → way g k atom rule ≡ passed_row g k rows → (b : Bool) →
+        is_silent g k depth (empty_row k rows) ≡ b → Way g k atom rule symbols
+    by_silent not_it e true s =
+        as_nothing g k d atom rule symbols f not_it s (e ∙ cond-true (is_silent g k depth (empty_row k rows)) [] (empty_row k rows) s)
+    by_silent not_it e false s = as_chosen g k d atom rule symbols f
+        (e ∙ cond-false (is_silent g k depth (empty_row k rows)) [] (empty_row k rows) s ∙ sym
+        (none_chooses_other g k atom (empty_row k rows) rows (ap (λ s. has s atom) of_rule.whole ∙ not_it)))
 
-      by_begun : (b : Bool) → has (k.begins rule) atom ≡ b → Way g k atom rule symbols
-      by_begun true e = as_chosen g k d atom rule symbols f (begun_whatever g k atom (passed_row g k rows) (empty_row k rows) rows
-          (ap (λ s. has s atom) of_rule.whole ∙ e))
-      by_begun false e = by_silent e (none_chooses_other g k atom (passed_row g k rows) rows (ap (λ s. has s atom) of_rule.whole ∙ e))
-          (is_silent g k depth (empty_row k rows)) refl
+    by_begun : (b : Bool) → has (k.begins rule) atom ≡ b → Way g k atom rule symbols
+    by_begun true e = as_chosen g k d atom rule symbols f (begun_whatever g k atom (passed_row g k rows) (empty_row k rows) rows
+        (ap (λ s. has s atom) of_rule.whole ∙ e))
+    by_begun false e = by_silent e (none_chooses_other g k atom (passed_row g k rows) rows (ap (λ s. has s atom) of_rule.whole ∙ e))
+        (is_silent g k depth (empty_row k rows)) refl
 
   -- before an atom that does not begin the rule its way is the row of the rule passed over
   pub way_past : (g : Grammar A) (k : Known) → IsDecided g k → (atom rule : ℕ) → has (k.begins rule) atom ≡ false →

@@ -45,9 +45,8 @@ steps_through k (Symbol.Token class ∷ symbols) = 1
 steps_through k (Symbol.Act a ∷ symbols) = suc (steps_through k symbols)
 steps_through k (Symbol.Rule rule ∷ symbols) = k.steps rule + (if k.is_empty rule then steps_through k symbols else 0)
 
--- Tells whether a row is fit for its rule. If it can be empty, the atoms before which it is not taken begin the rule, and each atom
--- that both begins the rule and may follow it is one of them; where there are any, no atom begins the row. If it cannot be empty
--- there are none.
+-- Tells whether a row is fit for its rule. If it can be empty, the atoms before which it is not taken begin the rule, and each atom that
+-- both begins the rule and may follow it is one of them; where there are any, no atom begins the row. If it cannot be empty there are none.
 abbrev pub is_preferred : {A : Type 0} → Grammar A → Known → ℕ → Row A → Bool
 is_preferred g k rule row =
     if can_end k row.parts
@@ -68,7 +67,5 @@ are_sound g k rule (row ∷ rows) = is_sound g k rule row && are_sound g k rule 
 abbrev pub is_decided : {A : Type 0} → Grammar A → Known → ℕ → Bool
 is_decided g k rule =
     let rows = g.rows_of rule in
-    (all_beginnings g k rows == k.begins rule)
-    && are_apart g k 0 rows
-    && (empty_rows k rows == (if k.is_empty rule then 1 else 0))
+    (all_beginnings g k rows == k.begins rule) && are_apart g k 0 rows && (empty_rows k rows == (if k.is_empty rule then 1 else 0))
     && are_sound g k rule rows

@@ -17,24 +17,19 @@ IsSpaced g k (Symbol.Rule rule ∷ symbols) =
 
 -- Tokens are all taken exactly where they begin a text. Thus the bad token is the first with which they begin none.
 abbrev pub BadTokensBeginNothing : Type 0 → Type 0
-BadTokensBeginNothing A =
-    (g : Grammar A) (k : Known) (rule : ℕ) (atoms : List ℕ) → IsDecided g k →
-    (is_some (read g k (Symbol.Rule rule ∷ []) atoms) ≡ true) ↔ Begins g
-    (Symbol.Rule rule ∷ []) atoms
+BadTokensBeginNothing A = (g : Grammar A) (k : Known) (rule : ℕ) (atoms : List ℕ) → IsDecided g k →
+    (is_some (read g k (Symbol.Rule rule ∷ []) atoms) ≡ true) ↔ Begins g (Symbol.Rule rule ∷ []) atoms
 
 -- The tokens are a text with these events exactly where they are taken, and the events are those of reading, followed by those of
 -- the stack that is left, without a token.
 abbrev pub TextsAreTaken : Type 0 → Type 0
-TextsAreTaken A =
-    (g : Grammar A) (k : Known) (rule : ℕ) (atoms : List ℕ) (events : List (Event A)) → IsDecided g k →
+TextsAreTaken A = (g : Grammar A) (k : Known) (rule : ℕ) (atoms : List ℕ) (events : List (Event A)) → IsDecided g k →
     IsText g (Symbol.Rule rule ∷ []) atoms events
     ↔ ((r : Read A) × (rest : List (Event A)) × (read g k (Symbol.Rule rule ∷ []) atoms ≡ Some r) × (events ≡ r.events ++ rest) ×
-    IsText g r.left
-    [] rest)
+    IsText g r.left [] rest)
 
 -- The tokens are a text exactly where they are taken and the symbols that are left can be empty.
 abbrev pub SourcesEnd : Type 0 → Type 0
-SourcesEnd A =
-    (g : Grammar A) (k : Known) (rule : ℕ) (atoms : List ℕ) → IsDecided g k →
+SourcesEnd A = (g : Grammar A) (k : Known) (rule : ℕ) (atoms : List ℕ) → IsDecided g k →
     ((events : List (Event A)) × IsText g (Symbol.Rule rule ∷ []) atoms events)
     ↔ ((r : Read A) × (read g k (Symbol.Rule rule ∷ []) atoms ≡ Some r) × (can_end k r.left ≡ true))

@@ -53,5 +53,4 @@ closes g (Some (Symbol.Rule rule)) (suc n) = all_rows (λ parts. closes g (last_
 abbrev pub SourcesArePieces : Type 0 → Type 0
 SourcesArePieces A =
     (g : Grammar A) (k : Known) (rule deep : ℕ) (further : List ℕ → ℕ → List ℕ → ℕ) (atoms : List ℕ) → IsDecided g k → closes g
-    (Some (Symbol.Rule rule)) deep ≡ true →
-    (pieces : List Piece) × ArePieces g rule further pieces atoms
+    (Some (Symbol.Rule rule)) deep ≡ true → (pieces : List Piece) × ArePieces g rule further pieces atoms

@@ -13,9 +13,8 @@ pub fn texts<A>()
     ensures { TextsAreTaken A }
 {}
 
-/// Shows for each grammar in which one token decides: tokens are a text exactly where they are taken and the symbols that are
-/// left can be empty. Thus no bad token is reported of a source, up to its end, exactly where the source is a text of the rule of
-/// files.
+/// Shows for each grammar in which one token decides: tokens are a text exactly where they are taken and the symbols that are left can be
+/// empty. Thus no bad token is reported of a source, up to its end, exactly where the source is a text of the rule of files.
 pub fn sources<A>()
     ensures { SourcesEnd A }
 {}

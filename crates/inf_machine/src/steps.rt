@@ -19,7 +19,6 @@ pub(crate) enum Step {
 }
 
 impl Step {
-    /// Returns whether the step is kept, as a refusal is not.
     #[inline(always)]
     pub(crate) fn is_kept(self) -> bool
         ensures { result ≡ is_kept self }

@@ -81,8 +81,7 @@ declared_findings name kind d = record { least = d.finding; many = kind; again =
 
 -- The end of a declaration, or of the header of one, that begins at a place
 abbrev pub declared_ended : Limits → Context → Place → Bool → Name → FixedLimit → Declared → Compilation → Compilation
-declared_ended limits context first has_last name kind d w =
-    unit_ended limits context first has_last (declared_findings name kind d) w
+declared_ended limits context first has_last name kind d w = unit_ended limits context first has_last (declared_findings name kind d) w
 
 abbrev pub declaration_ended : Limits → Context → Place → Name → FixedLimit → Declared → Compilation → Compilation
 declaration_ended limits context first name kind d w = declared_ended limits context first true name kind d w
@@ -138,8 +137,7 @@ aliased kind (Some m) None = m
 aliased kind _ f = nothing_of kind
 
 abbrev pub alias_with : Limits → Context → Place → Name → FixedLimit → Option Meaning → Declared → Compilation → Compilation
-alias_with limits context first name kind m d w =
-    declaration_ended limits context first name kind d
+alias_with limits context first name kind m d w = declaration_ended limits context first name kind d
     (record w { output = name_declared limits name (aliased kind m d.finding) w.output })
 
 abbrev pub alias_by : Limits → Option Meaning → Context → Place → Name → ℕ → FixedLimit → Compilation → Compilation
@@ -147,8 +145,7 @@ alias_by limits m context first name at kind w =
     let own = name_known name at false w in
     alias_with limits context first name kind m (record {
       found = own.found;
-      finding = least_of_both own.finding
-          (alias_finding w.unit.tokens m);
+      finding = least_of_both own.finding (alias_finding w.unit.tokens m);
     }) w
 
 -- the meaning of the last name of the unit, where it is one of this kind

@@ -33,8 +33,6 @@ pub struct Declared {
     pub finding: Option<Finding>,
 }
 
-/// Returns the reason why a name cannot be declared that is declared already, or is one of the language, by `found`,
-/// the answer of its look-up.
 fn standing_fault(found: Found<Place>) -> Option<DeclareFault<Place>>
     ensures { result ≡ standing_fault found }
 {
@@ -45,7 +43,6 @@ fn standing_fault(found: Found<Place>) -> Option<DeclareFault<Place>>
     }
 }
 
-/// Returns whether a leaf is this name.
 fn is_name_at(tokens: &UnitTokens, name: &[u8], leaf: Leaf) -> bool
     ensures { result ≡ is_name_at tokens.now name.now leaf }
 {
@@ -115,8 +112,7 @@ pub fn is_alias(names: &[Name], leaves: &[Leaf]) -> bool
     !names.is_empty() && leaves.is_empty()
 }
 
-/// Returns the meaning of a name of `kind` that is another name of one, by `found`, the answer of the look-up of that
-/// one.
+/// Returns the meaning of a name of `kind` that is another name of one, by `found`, the answer of the look-up of that one.
 fn alias_meaning(kind: FixedLimit, found: Found<Place>) -> Option<Meaning>
     ensures { result ≡ alias_meaning kind found }
 {
@@ -214,7 +210,6 @@ pub fn plainly_known<B: Bounds>(compilation: &Compilation<B>, name: &Name, order
     }
 }
 
-/// Returns the findings about the declaration of `name`, of `kind`, as `declared` shows them.
 fn declared_findings(name: &Name, kind: FixedLimit, declared: Declared) -> Findings
     ensures { found_as result ≡ declared_findings (as_name name.now) kind declared }
 {
@@ -300,7 +295,6 @@ pub fn valued<B: Bounds>(
     })
 }
 
-/// Returns the meaning of the last name of the unit, where it is one of `kind`.
 fn last_meaning<B: Bounds>(compilation: &Compilation<B>, kind: FixedLimit) -> Option<Meaning>
     ensures { result ≡ last_meaning kind (work compilation.now) }
 {

@@ -69,8 +69,7 @@ fn value_by<B: Bounds>(
     compilation: &Compilation<B>,
     operands: &[Operand],
 ) -> Result<Value, AllocError>
-    ensures { IfOk result
-        (λ value. value ≡ value_in (map tree_in (trees_at 0 Wanted.Constant operands.now (work compilation.now)))) }
+    ensures { IfOk result (λ value. value ≡ value_in (map tree_in (trees_at 0 Wanted.Constant operands.now (work compilation.now)))) }
 {
     let symbols = compilation.unit.gathering.symbols();
     if let [Symbol::Leaf { leaf, .. }] = *symbols {
@@ -125,7 +124,6 @@ pub fn text_at<B: Bounds>(
     }
 }
 
-/// Returns whether an item is a string variable.
 fn is_variable(item: TextItem) -> bool
     ensures { result ≡ is_variable item }
 {

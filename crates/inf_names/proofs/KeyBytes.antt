@@ -8,13 +8,12 @@ use Rattle.inf_names.specs.Keys.{padded}
 
 -- a test of two lists that holds exactly where they are the same
 pub same_truth : (t : Bool) (a b : List ℕ) → (t ≡ true → a ≡ b) → (a ≡ b → t ≡ true) → t ≡ bytes_eq a b
-same_truth t a b to from = go t (bytes_eq a b) to from (bytes_eq-Decides a b).0 (bytes_eq-Decides a b).1
-  where
-    go : (t r : Bool) → (t ≡ true → a ≡ b) → (a ≡ b → t ≡ true) → (r ≡ true → a ≡ b) → (a ≡ b → r ≡ true) → t ≡ r
-    go true true to from of back = refl
-    go false false to from of back = refl
-    go true false to from of back = sym (back (to refl))
-    go false true to from of back = from (of refl)
+same_truth t a b to from = go t (bytes_eq a b) to from (bytes_eq-Decides a b).0 (bytes_eq-Decides a b).1 where
+  go : (t r : Bool) → (t ≡ true → a ≡ b) → (a ≡ b → t ≡ true) → (r ≡ true → a ≡ b) → (a ≡ b → r ≡ true) → t ≡ r
+  go true true to from of back = refl
+  go false false to from of back = refl
+  go true false to from of back = sym (back (to refl))
+  go false true to from of back = from (of refl)
 
 -- eight bytes behind others, and what is behind them
 piece : (n : ℕ) (xs : List ℕ) → drop n xs ≡ take 8 (drop n xs) ++ drop (n + 8) xs
@@ -27,8 +26,7 @@ pub all_same : (a b : List ℕ) → length a ≡ 40 → length b ≡ 40 → take
     take 8 (drop 8 a) ≡ take 8 (drop 8 b) → take 8 (drop 16 a) ≡ take 8 (drop 16 b) → take 8 (drop 24 a) ≡ take 8 (drop 24 b) → take 8
     (drop 32 a) ≡ take 8 (drop 32 b) → a ≡ b
 all_same a b la lb p q r s t =
-    let short_a : length a ≤ 40 = omega (arith, la) in
-    let short_b : length b ≤ 40 = omega (arith, lb) in
+    let short_a : length a ≤ 40 = omega (arith, la) in let short_b : length b ≤ 40 = omega (arith, lb) in
     let none_a : drop 40 a ≡ [] = drop_of_length-le a short_a in
     let none_b : drop 40 b ≡ [] = drop_of_length-le b short_b in
     let end : drop 40 a ≡ drop 40 b = none_a ∙ sym none_b in
@@ -70,8 +68,7 @@ padded_is bytes n l le zeros =
 -- five writes hash the five words
 pub hashed : {S : Type 0} (write : S → List ℕ → S) (bytes all v w x y z : List ℕ) (s s1 s2 s3 s4 s5 : S) → bytes ≡ all →
     v ≡ take 8 (drop 0 bytes) → w ≡ take 8 (drop 8 bytes) → x ≡ take 8 (drop 16 bytes) → y ≡ take 8 (drop 24 bytes) →
-    z ≡ take 8 (drop 32 bytes) →
-    s1 ≡ write s v → s2 ≡ write s1 w → s3 ≡ write s2 x → s4 ≡ write s3 y → s5 ≡ write s4 z →
+    z ≡ take 8 (drop 32 bytes) → s1 ≡ write s v → s2 ≡ write s1 w → s3 ≡ write s2 x → s4 ≡ write s3 y → s5 ≡ write s4 z →
     s5 ≡ write (write (write (write (write s (take 8 (drop 0 all))) (take 8 (drop 8 all))) (take 8 (drop 16 all))) (take 8 (drop 24 all)))
     (take 8 (drop 32 all))
 hashed write bytes all v w x y z s s1 s2 s3 s4 s5 is ev ew ex ey ez e1 e2 e3 e4 e5 =
@@ -99,8 +96,7 @@ pub zeros_behind : (name items : List ℕ) → items ≡ map to_ascii_lowercase 
 zeros_behind name items e =
     ap (drop (length name)) e ∙ drop-map to_ascii_lowercase (length name) (name ++ drop (length name) (replicate 40 0))
     ∙ ap (map to_ascii_lowercase) (drop_at name (drop (length name) (replicate 40 0)) (length name) refl
-    ∙ drop-replicate (length name) 40 0)
-    ∙ zeros_same (40 - length name)
+    ∙ drop-replicate (length name) 40 0) ∙ zeros_same (40 - length name)
 
 pub name_before : (name items : List ℕ) → items ≡ map to_ascii_lowercase (name ++ drop (length name) (replicate 40 0)) →
     take (length name) items ≡ map to_ascii_lowercase name

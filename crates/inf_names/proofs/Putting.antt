@@ -23,12 +23,11 @@ has key k = bytes_eq key k.items
 pub standing_of-lookup : {P : Type 0} (key : List ℕ) (es : List (Key × Entry P)) →
     standing_of key (map as_named es) ≡ option_map standing (lookup (has key) es)
 standing_of-lookup key [] = refl
-standing_of-lookup key (e ∷ es) = go (bytes_eq key e.0.items) (standing_of-lookup key es)
-  where
-    go : (t : Bool) → standing_of key (map as_named es) ≡ option_map standing (lookup (has key) es) →
-        cond t (Some (standing e.1)) (standing_of key (map as_named es)) ≡ option_map standing (cond t (Some e.1) (lookup (has key) es))
-    go true later = refl
-    go false later = later
+standing_of-lookup key (e ∷ es) = go (bytes_eq key e.0.items) (standing_of-lookup key es) where
+  go : (t : Bool) → standing_of key (map as_named es) ≡ option_map standing (lookup (has key) es) →
+      cond t (Some (standing e.1)) (standing_of key (map as_named es)) ≡ option_map standing (cond t (Some e.1) (lookup (has key) es))
+  go true later = refl
+  go false later = later
 
 pub standing_at-get : {P : Type 0} (n : ℕ) (es : List (Key × Entry P)) →
     standing_at n (map as_named es) ≡ option_map (λ e. standing e.1) (slice_get es n)
@@ -39,35 +38,31 @@ standing_at-get (suc n) (e ∷ es) = standing_at-get n es
 pub put-insert : {P : Type 0} (key : Key) (entry : Entry P) (es : List (Key × Entry P)) →
     map as_named (insert_entry (λ a b. bytes_eq a.items b.items) es key entry) ≡ put key.items (standing entry) (map as_named es)
 put-insert key entry [] = refl
-put-insert key entry (e ∷ es) = go (bytes_eq key.items e.0.items) (put-insert key entry es)
-  where
-    go : (t : Bool) → map as_named (insert_entry (λ a b. bytes_eq a.items b.items) es key entry) ≡ put key.items (standing entry)
-        (map as_named es) → map as_named (cond t ((e.0, entry) ∷ es) (e ∷ insert_entry (λ a b. bytes_eq a.items b.items) es key entry)) ≡
-        cond t (as_named (e.0, entry) ∷ map as_named es) (as_named e ∷ put key.items (standing entry) (map as_named es))
-    go true later = refl
-    go false later = ap (λ names. as_named e ∷ names) later
+put-insert key entry (e ∷ es) = go (bytes_eq key.items e.0.items) (put-insert key entry es) where
+  go : (t : Bool) → map as_named (insert_entry (λ a b. bytes_eq a.items b.items) es key entry) ≡ put key.items (standing entry)
+      (map as_named es) → map as_named (cond t ((e.0, entry) ∷ es) (e ∷ insert_entry (λ a b. bytes_eq a.items b.items) es key entry)) ≡
+      cond t (as_named (e.0, entry) ∷ map as_named es) (as_named e ∷ put key.items (standing entry) (map as_named es))
+  go true later = refl
+  go false later = ap (λ names. as_named e ∷ names) later
 
 pub index_of-place : {P : Type 0} (key : List ℕ) (es : List (Key × Entry P)) →
     index_of key (map as_named es) ≡ position_or_len (has key) (keys_of es)
 index_of-place key [] = refl
-index_of-place key (e ∷ es) = go (bytes_eq key e.0.items) (index_of-place key es)
-  where
-    go : (t : Bool) → index_of key (map as_named es) ≡ position_or_len (has key) (keys_of es) →
-        cond t 0 (index_of key (map as_named es) + 1) ≡ cond (not t) (1 + position_or_len (has key) (keys_of es)) 0
-    go true later = refl
-    go false later = omega arith
+index_of-place key (e ∷ es) = go (bytes_eq key e.0.items) (index_of-place key es) where
+  go : (t : Bool) → index_of key (map as_named es) ≡ position_or_len (has key) (keys_of es) →
+      cond t 0 (index_of key (map as_named es) + 1) ≡ cond (not t) (1 + position_or_len (has key) (keys_of es)) 0
+  go true later = refl
+  go false later = omega arith
 
 -- a name that is not there is put behind all others
 pub index_of-absent : {P : Type 0} (key : List ℕ) (names : List (Named P)) → is_some (standing_of key names) ≡ false →
     index_of key names ≡ length names
 index_of-absent key [] is = refl
-index_of-absent key (n ∷ names) is = go (bytes_eq key n.name) is (index_of-absent key names)
-  where
-    go : (t : Bool) → is_some (cond t (Some n.standing) (standing_of key names)) ≡ false →
-        (is_some (standing_of key names) ≡ false → index_of key names ≡ length names) →
-        cond t 0 (index_of key names + 1) ≡ length (n ∷ names)
-    go true is later = cc
-    go false is later = omega (arith, later is)
+index_of-absent key (n ∷ names) is = go (bytes_eq key n.name) is (index_of-absent key names) where
+  go : (t : Bool) → is_some (cond t (Some n.standing) (standing_of key names)) ≡ false →
+      (is_some (standing_of key names) ≡ false → index_of key names ≡ length names) → cond t 0 (index_of key names + 1) ≡ length (n ∷ names)
+  go true is later = cc
+  go false is later = omega (arith, later is)
 
 -- whether a name's state is not that of a declared one
 abbrev pub is_open : {P : Type 0} → Option (Standing P) → Bool
@@ -110,12 +105,11 @@ declarations-used {P} key spelling place (n ∷ names) is =
 
 pub declarations-few : {P : Type 0} (names : List (Named P)) → declarations names ≤ length names
 declarations-few [] = omega arith
-declarations-few {P} (n ∷ names) = go n.standing (declarations-few names)
-  where
-    go : (s : Standing P) → declarations names ≤ length names →
-        declarations (record { name = n.name; standing = s } ∷ names) ≤ length (n ∷ names)
-    go (IsUsed spelling place) few = omega (arith, few)
-    go (IsDeclared number meaning place) few = omega (arith, few)
+declarations-few {P} (n ∷ names) = go n.standing (declarations-few names) where
+  go : (s : Standing P) → declarations names ≤ length names →
+      declarations (record { name = n.name; standing = s } ∷ names) ≤ length (n ∷ names)
+  go (IsUsed spelling place) few = omega (arith, few)
+  go (IsDeclared number meaning place) few = omega (arith, few)
 
 pub standing-copied : {P : Type 0} (r : Option (Bor (Entry P))) → option_map (λ e. standing e.now) r ≡ option_map standing (option_copied r)
 standing-copied None = refl
@@ -125,13 +119,12 @@ standing-copied (Some e) = refl
 pub length-put : {P : Type 0} (key : List ℕ) (s : Standing P) (names : List (Named P)) →
     length (put key s names) ≡ length names + cond (is_some (standing_of key names)) 0 1
 length-put key s [] = refl
-length-put key s (n ∷ names) = go (bytes_eq key n.name) (length-put key s names)
-  where
-    go : (t : Bool) → length (put key s names) ≡ length names + cond (is_some (standing_of key names)) 0 1 → length
-        (cond t (record { name = n.name; standing = s } ∷ names) (n ∷ put key s names)) ≡ length (n ∷ names) + cond
-        (is_some (cond t (Some n.standing) (standing_of key names))) 0 1
-    go true later = omega arith
-    go false later = omega (arith, later)
+length-put key s (n ∷ names) = go (bytes_eq key n.name) (length-put key s names) where
+  go : (t : Bool) → length (put key s names) ≡ length names + cond (is_some (standing_of key names)) 0 1 → length
+      (cond t (record { name = n.name; standing = s } ∷ names) (n ∷ put key s names)) ≡ length (n ∷ names) + cond
+      (is_some (cond t (Some n.standing) (standing_of key names))) 0 1
+  go true later = omega arith
+  go false later = omega (arith, later)
 
 -- where a name has no fault it was not declared
 pub open_where_fit : {P : Type 0} (system : Option Meaning) (s : Option (Standing P)) (full : Bool) →
@@ -222,26 +215,23 @@ absent_key key es lacks = ap is_some (standing_of-lookup key es ∙ ap (option_m
 -- a number that was found is the number of a name
 module _ {P : Type 0} (key : List ℕ) (names : List (Named P)) where
   pub numbered : (n : ℕ) → Some n ≡ number_among key names → (is_some (standing_of key names) ≡ true) × (n ≡ index_of key names)
-  numbered n is = go (is_some (standing_of key names)) is
-    where
-      go : (t : Bool) → Some n ≡ cond t (Some (index_of key names)) None → (t ≡ true) × (n ≡ index_of key names)
-      go true is = (refl, cc)
-      go false is = cc
+  numbered n is = go (is_some (standing_of key names)) is where
+    go : (t : Bool) → Some n ≡ cond t (Some (index_of key names)) None → (t ≡ true) × (n ≡ index_of key names)
+    go true is = (refl, cc)
+    go false is = cc
 
   pub not_numbered : None ≡ number_among key names → is_some (standing_of key names) ≡ false
-  not_numbered is = go (is_some (standing_of key names)) is
-    where
-      go : (t : Bool) → None ≡ cond t (Some (index_of key names)) None → t ≡ false
-      go true is = cc
-      go false is = refl
+  not_numbered is = go (is_some (standing_of key names)) is where
+    go : (t : Bool) → None ≡ cond t (Some (index_of key names)) None → t ≡ false
+    go true is = cc
+    go false is = refl
 
 -- a place that a search found is the first that passes
 found_place : (n place len : ℕ) → Some n ≡ cond (ltb place len) (Some place) None → n ≡ place
-found_place n place len is = go (ltb place len) is
-  where
-    go : (t : Bool) → Some n ≡ cond t (Some place) None → n ≡ place
-    go true is = cc
-    go false is = cc
+found_place n place len is = go (ltb place len) is where
+  go : (t : Bool) → Some n ≡ cond t (Some place) None → n ≡ place
+  go true is = cc
+  go false is = cc
 
 is_some-option_map : {A B : Type 0} (f : A → B) (o : Option A) → is_some (option_map f o) ≡ is_some o
 is_some-option_map f None = refl
@@ -250,40 +240,37 @@ is_some-option_map f (Some x) = refl
 -- the place of a key is the number of its name
 pub number_of_place : {P : Type 0} (key : List ℕ) (es : List (Key × Entry P)) (r : Option ℕ) → r ≡ position (has key) (keys_of es) →
     is_some r ≡ is_some (lookup (has key) es) → r ≡ number_among key (map as_named es)
-number_of_place {P} key es r is same = go r is same
-  where
-    names : List (Named P)
-    names = map as_named es
+number_of_place {P} key es r is same = go r is same where
+  names : List (Named P)
+  names = map as_named es
 
-    known : is_some (standing_of key names) ≡ is_some (lookup (has key) es)
-    known = ap is_some (standing_of-lookup key es) ∙ is_some-option_map standing (lookup (has key) es)
+  known : is_some (standing_of key names) ≡ is_some (lookup (has key) es)
+  known = ap is_some (standing_of-lookup key es) ∙ is_some-option_map standing (lookup (has key) es)
 
-    go : (r : Option ℕ) → r ≡ position (has key) (keys_of es) → is_some r ≡ is_some (lookup (has key) es) → r ≡ number_among key names
-    go None is same = sym (ap (λ t. cond t (Some (index_of key names)) None) (known ∙ sym same))
-    go (Some n) is same = ap Some (found_place n _ _ is ∙ sym (index_of-place key es))
-        ∙ sym (ap (λ t. cond t (Some (index_of key names)) None) (known ∙ sym same))
+  go : (r : Option ℕ) → r ≡ position (has key) (keys_of es) → is_some r ≡ is_some (lookup (has key) es) → r ≡ number_among key names
+  go None is same = sym (ap (λ t. cond t (Some (index_of key names)) None) (known ∙ sym same))
+  go (Some n) is same = ap Some (found_place n _ _ is ∙ sym (index_of-place key es))
+      ∙ sym (ap (λ t. cond t (Some (index_of key names)) None) (known ∙ sym same))
 
 -- there are at most as many names as there may be, where a new one comes only if there is room
 pub fits_behind : (limit len new : ℕ) (known : Bool) → len ≤ limit → new ≡ len + cond known 0 1 →
     (known ≡ false → nat_le limit len ≡ false) → new ≤ limit
 fits_behind limit len new true within is room = omega (arith, within, is)
 fits_behind limit len new false within is room =
-    let below : nat_le limit len ≡ false = room refl in
-    grind (arith, nat_tests, below, is)
+    let below : nat_le limit len ≡ false = room refl in grind (arith, nat_tests, below, is)
 
 -- the state of a name is found at its number
 standing_at-index : {P : Type 0} (key : List ℕ) (names : List (Named P)) → is_some (standing_of key names) ≡ true →
     standing_at (index_of key names) names ≡ standing_of key names
 standing_at-index key [] is = cc
-standing_at-index {P} key (n ∷ names) is = go (bytes_eq key n.name) is (standing_at-index key names)
-  where
-    go : (t : Bool) → is_some (cond t (Some n.standing) (standing_of key names)) ≡ true →
-        (is_some (standing_of key names) ≡ true → standing_at (index_of key names) names ≡ standing_of key names)
-        → standing_at (cond t 0 (index_of key names + 1)) (n ∷ names) ≡ cond t (Some n.standing) (standing_of key names)
-    go true known later = refl
-    go false known later =
-        let next : index_of key names + 1 ≡ suc (index_of key names) = omega arith in
-        ap (λ k. standing_at k (n ∷ names)) next ∙ later known
+standing_at-index {P} key (n ∷ names) is = go (bytes_eq key n.name) is (standing_at-index key names) where
+  go : (t : Bool) → is_some (cond t (Some n.standing) (standing_of key names)) ≡ true →
+      (is_some (standing_of key names) ≡ true → standing_at (index_of key names) names ≡ standing_of key names)
+      → standing_at (cond t 0 (index_of key names + 1)) (n ∷ names) ≡ cond t (Some n.standing) (standing_of key names)
+  go true known later = refl
+  go false known later =
+      let next : index_of key names + 1 ≡ suc (index_of key names) = omega arith in
+      ap (λ k. standing_at k (n ∷ names)) next ∙ later known
 
 found_known : {P : Type 0} (system : Option Meaning) (s : Option (Standing P)) → is_some s ≡ true → found_as None s ≡ found_as system s
 found_known system None is = cc
@@ -295,12 +282,11 @@ some_same a b e = cc
 
 pub found_at_number : {P : Type 0} (system : Option Meaning) (key : List ℕ) (names : List (Named P)) (number : ℕ) →
     Some number ≡ number_among key names → found_as None (standing_at number names) ≡ found_as system (standing_of key names)
-found_at_number {P} system key names number is = go (is_some (standing_of key names)) refl is
-  where
-    go : (t : Bool) → is_some (standing_of key names) ≡ t → Some number ≡ (if t then Some (index_of key names) else None) →
-        found_as None (standing_at number names) ≡ found_as system (standing_of key names)
-    go true known same =
-        let at : number ≡ index_of key names = some_same number (index_of key names) same in
-        ap (λ k. found_as None (standing_at k names)) at ∙ ap (found_as None) (standing_at-index key names known)
-        ∙ found_known system (standing_of key names) known
-    go false known same = cc
+found_at_number {P} system key names number is = go (is_some (standing_of key names)) refl is where
+  go : (t : Bool) → is_some (standing_of key names) ≡ t → Some number ≡ (if t then Some (index_of key names) else None) →
+      found_as None (standing_at number names) ≡ found_as system (standing_of key names)
+  go true known same =
+      let at : number ≡ index_of key names = some_same number (index_of key names) same in
+      ap (λ k. found_as None (standing_at k names)) at ∙ ap (found_as None) (standing_at-index key names known)
+      ∙ found_known system (standing_of key names) known
+  go false known same = cc

@@ -56,8 +56,7 @@ meaning_of SystemName.TemporaryGlobal = Meaning.Variable 255
 meaning_of SystemName.Debug = Meaning.Number 0
 
 unfoldable pub system_names : List SystemName
-system_names =
-    SystemName.True ∷ SystemName.False ∷ SystemName.Nothing ∷ SystemName.Null ∷ SystemName.WordSize ∷ SystemName.TargetZcode ∷
+system_names = SystemName.True ∷ SystemName.False ∷ SystemName.Nothing ∷ SystemName.Null ∷ SystemName.WordSize ∷ SystemName.TargetZcode ∷
     SystemName.Name ∷ SystemName.Class ∷
     SystemName.Object ∷ SystemName.Routine ∷ SystemName.String ∷ SystemName.Child ∷ SystemName.Parent ∷ SystemName.Sibling ∷
     SystemName.Children ∷ SystemName.Random ∷
@@ -73,13 +72,11 @@ named spelling = find (has_name spelling) system_names
 
 -- the first and last letters of the names that have `size` letters
 abbrev pub ends_of : ℕ → List (ℕ × ℕ)
-ends_of size =
-    if nat_eq size 4 then (116, 101) ∷ (110, 108) ∷ (110, 101) ∷ (115, 102) ∷ [] else
+ends_of size = if nat_eq size 4 then (116, 101) ∷ (110, 108) ∷ (110, 101) ∷ (115, 102) ∷ [] else
     if nat_eq size 5 then (102, 101) ∷ (99, 115) ∷ (99, 100) ∷ (100, 103) ∷ [] else
     if nat_eq size 6 then (111, 116) ∷ (115, 103) ∷ (112, 116) ∷ (114, 109) ∷ (115, 114) ∷ [] else
     if nat_eq size 7 then (110, 103) ∷ (114, 101) ∷ (115, 103) ∷ (115, 114) ∷ [] else
-    if nat_eq size 8 then (119, 101) ∷ (99, 110) ∷ (105, 116) ∷ [] else
-    if nat_eq size 11 then (116, 108) ∷ [] else
+    if nat_eq size 8 then (119, 101) ∷ (99, 110) ∷ (105, 116) ∷ [] else if nat_eq size 11 then (116, 108) ∷ [] else
     if nat_eq size 12 then (116, 101) ∷ [] else []
 
 -- whether one pair of ends is `first` and `last`
@@ -88,8 +85,7 @@ has_ends ends first last = list_any (λ (e : ℕ × ℕ). nat_eq e.0 first && na
 
 -- whether some name of the language has the size and the ends of `spelling`, in any case
 abbrev pub may_be_known : List ℕ → Bool
-may_be_known spelling =
-    has_ends (ends_of (length spelling)) (to_ascii_lowercase (get_or spelling 0 0))
+may_be_known spelling = has_ends (ends_of (length spelling)) (to_ascii_lowercase (get_or spelling 0 0))
     (to_ascii_lowercase (get_or spelling (length spelling - 1) 0))
 
 -- DEBUG is there only where debugging is on

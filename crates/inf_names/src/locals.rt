@@ -43,7 +43,6 @@ fn is_same_name(name: &[u8], other: &[u8]) -> bool
     last_letter(name) == last_letter(other) && are_same_bytes(name, other)
 }
 
-/// Returns the last letter of a name as a number that is the same in any case: 0 where the name is empty.
 fn last_letter(name: &[u8]) -> u8
     ensures { result ≡ last_letter name.now }
 {

@@ -1,7 +1,7 @@
 //! The meanings of names.
 
 /// A function that the language has from the start.
-#[derive(Clone, Copy, PartialEq, Eq)]
+#[derive(Clone, Copy, Debug, PartialEq, Eq)]
 pub enum Function {
     Child,
     Parent,
@@ -12,7 +12,7 @@ pub enum Function {
 }
 
 /// The meaning of a name. A part of the story that is laid out at the end is named by its place among those of its kind, counted from 0.
-#[derive(Clone, Copy)]
+#[derive(Clone, Copy, Debug)]
 pub enum Meaning {
     /// A constant whose number is known.
     Number(u16),

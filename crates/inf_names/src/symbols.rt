@@ -17,7 +17,7 @@ use std::marker::{Model, PhantomData};
 pub const LONGEST_NAME: usize = 35;
 
 /// The finding of a look-up of a name. `P` is a place in a source.
-#[derive(Clone, Copy)]
+#[derive(Clone, Copy, Debug)]
 pub enum Found<P> {
     /// A name that the language has from the start.
     System(Meaning),
@@ -29,7 +29,7 @@ pub enum Found<P> {
 }
 
 /// The reason for which a name was not declared.
-#[derive(Clone, Copy)]
+#[derive(Clone, Copy, Debug)]
 pub enum DeclareFault<P> {
     /// The name was declared at this place; without a place, the language has it from the start.
     Present(Option<P>),
@@ -51,7 +51,7 @@ impl<P, T: Drop> From<AllocFailed<T>> for DeclareFault<P> {
 }
 
 /// The reason for which a name was not used.
-#[derive(Clone, Copy)]
+#[derive(Clone, Copy, Debug)]
 pub enum ReferFault {
     /// There are as many names as there may be.
     Full,
@@ -345,7 +345,6 @@ impl<P: Copy, B: Bounds> Symbols<P, B> {
         self.entries.get_index_of(key)
     }
 
-    /// Returns whether there are as many names as there may be.
     fn is_full(&self) -> bool
         ensures { result ≡ is_full B.most self.now }
     {

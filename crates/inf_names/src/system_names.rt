@@ -81,7 +81,6 @@ fn ends_of(size: usize) -> &'static [(u8, u8)]
     }
 }
 
-/// Returns whether one pair of `ends` is `first` and `last`.
 fn has_ends(ends: &[(u8, u8)], first: u8, last: u8) -> bool
     ensures { result ≡ has_ends ends.now first last }
 {
@@ -98,7 +97,6 @@ fn letter_at(name: &[u8], place: usize) -> u8
     }
 }
 
-/// Returns whether some name of the language has the size and the ends of `name`, in any case.
 fn may_be_known(name: &[u8]) -> bool
     ensures { result ≡ may_be_known name.now }
 {
@@ -126,7 +124,6 @@ impl SystemName {
         all().iter().copied().find(|known| known.has_name(name))
     }
 
-    /// Returns whether this name is spelled `name`, in any case.
     fn has_name(self, name: &[u8]) -> bool
         ensures { result ≡ has_name name.now self }
     {

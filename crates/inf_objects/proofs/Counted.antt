@@ -13,16 +13,14 @@ use Rattle.inf_objects.specs.Objects.{head_bytes, head_fixups, list_bytes, objec
 -- the parts of both kinds together are the size of a property
 kinds : (p : Property) → ((kind_part false p).bytes + (kind_part true p).bytes ≡ (size_of Owner.Object p).bytes) ×
     ((kind_part false p).later + (kind_part true p).later ≡ (size_of Owner.Object p).fixups)
-kinds p = go (is_individual p)
-  where
-    go : (b : Bool) → ((if b then (if false then part_of p else no_part) else (if false then no_part else part_of p)).bytes
-        + (if b then (if true then part_of p else no_part) else (if true then no_part else part_of p)).bytes ≡
-        (size_of Owner.Object p).bytes)
-        × ((if b then (if false then part_of p else no_part) else (if false then no_part else part_of p)).later
-        + (if b then (if true then part_of p else no_part) else (if true then no_part else part_of p)).later ≡
-        (size_of Owner.Object p).fixups)
-    go true = (omega arith, omega arith)
-    go false = (omega arith, omega arith)
+kinds p = go (is_individual p) where
+  go : (b : Bool) → ((if b then (if false then part_of p else no_part) else (if false then no_part else part_of p)).bytes
+      + (if b then (if true then part_of p else no_part) else (if true then no_part else part_of p)).bytes ≡ (size_of Owner.Object p).bytes)
+      × ((if b then (if false then part_of p else no_part) else (if false then no_part else part_of p)).later
+      + (if b then (if true then part_of p else no_part) else (if true then no_part else part_of p)).later ≡
+      (size_of Owner.Object p).fixups)
+  go true = (omega arith, omega arith)
+  go false = (omega arith, omega arith)
 
 pub all_parts : (ps : List Property) → ((parts_of false ps).bytes + (parts_of true ps).bytes ≡ bytes_of Owner.Object ps) ×
     ((parts_of false ps).later + (parts_of true ps).later ≡ fixups_of Owner.Object ps)
@@ -51,41 +49,37 @@ all_parts (p ∷ ps) =
 -- a declared property needs nothing in an individual table; an individual one is counted as one
 abbrev OfKind : Property → Type 0
 OfKind p = ((is_individual p ≡ false) × ((size_of Owner.Object p).individuals ≡ 0) × ((kind_part true p).bytes ≡ 0) ×
-    ((kind_part true p).later ≡ 0))
-    ⊎ ((is_individual p ≡ true) × ((size_of Owner.Object p).individuals ≡ 1))
+    ((kind_part true p).later ≡ 0)) ⊎ ((is_individual p ≡ true) × ((size_of Owner.Object p).individuals ≡ 1))
 
 abbrev one_of : Property → Bool → Size
 one_of p b = if b then record { bytes = common_bytes (length p.values); fixups = later_count p.values; individuals = 0 }
     else record { bytes = individual_bytes (length p.values); fixups = later_count p.values; individuals = 1 }
 
 of_kind : (p : Property) → OfKind p
-of_kind p =
-    elim (cases_lt p.number 64) [
-      | inl h ↦
-          let declared : is_individual p ≡ false = lt-leb 64 p.number h in
-          inl (
-            declared,
-            ap (λ (b : Bool). (one_of p b).individuals) (lt-ltb p.number 64 h),
-            ap (λ (b : Bool). (if b then part_of p else no_part).bytes) declared,
-            ap (λ (b : Bool). (if b then part_of p else no_part).later) declared,
-          )
-      | inr h ↦ inr (le-leb 64 p.number h, ap (λ (b : Bool). (one_of p b).individuals) (le-ltb p.number 64 h))
-    ]
+of_kind p = elim (cases_lt p.number 64) [
+  | inl h ↦
+      let declared : is_individual p ≡ false = lt-leb 64 p.number h in
+      inl (
+        declared,
+        ap (λ (b : Bool). (one_of p b).individuals) (lt-ltb p.number 64 h),
+        ap (λ (b : Bool). (if b then part_of p else no_part).bytes) declared,
+        ap (λ (b : Bool). (if b then part_of p else no_part).later) declared,
+      )
+  | inr h ↦ inr (le-leb 64 p.number h, ap (λ (b : Bool). (one_of p b).individuals) (le-ltb p.number 64 h))
+]
 
 individuals_are : (ps : List Property) → nat_lt 0 (individuals_of Owner.Object ps) ≡ has_individual ps
 individuals_are [] = refl
-individuals_are (p ∷ ps) = go (individuals_are ps) (of_kind p)
-  where
-    sum : individuals_of Owner.Object (p ∷ ps) ≡ (size_of Owner.Object p).individuals + individuals_of Owner.Object ps
-    sum = sum_by-cons (λ q. (size_of Owner.Object q).individuals) p ps
+individuals_are (p ∷ ps) = go (individuals_are ps) (of_kind p) where
+  sum : individuals_of Owner.Object (p ∷ ps) ≡ (size_of Owner.Object p).individuals + individuals_of Owner.Object ps
+  sum = sum_by-cons (λ q. (size_of Owner.Object q).individuals) p ps
 
-    go : nat_lt 0 (individuals_of Owner.Object ps) ≡ has_individual ps → OfKind p →
-        nat_lt 0 (individuals_of Owner.Object (p ∷ ps)) ≡ has_individual (p ∷ ps)
-    go later (inl h) =
-        let same : individuals_of Owner.Object (p ∷ ps) ≡ individuals_of Owner.Object ps = omega (arith, sum, h.1) in
-        ap (nat_lt 0) same ∙ later ∙ sym (ap (λ b. b || has_individual ps) h.0)
-    go later (inr h) =
-        lt-ltb 0 (individuals_of Owner.Object (p ∷ ps)) (omega (arith, sum, h.1)) ∙ sym (ap (λ b. b || has_individual ps) h.0)
+  go : nat_lt 0 (individuals_of Owner.Object ps) ≡ has_individual ps → OfKind p →
+      nat_lt 0 (individuals_of Owner.Object (p ∷ ps)) ≡ has_individual (p ∷ ps)
+  go later (inl h) =
+      let same : individuals_of Owner.Object (p ∷ ps) ≡ individuals_of Owner.Object ps = omega (arith, sum, h.1) in
+      ap (nat_lt 0) same ∙ later ∙ sym (ap (λ b. b || has_individual ps) h.0)
+  go later (inr h) = lt-ltb 0 (individuals_of Owner.Object (p ∷ ps)) (omega (arith, sum, h.1)) ∙ sym (ap (λ b. b || has_individual ps) h.0)
 
 none_of_kind : (ps : List Property) → has_individual ps ≡ false → ((parts_of true ps).bytes ≡ 0) × ((parts_of true ps).later ≡ 0)
 none_of_kind [] e = (refl, refl)
@@ -111,18 +105,16 @@ doubled (p ∷ ps) = omega (arith, sum_by-cons (λ q. (size_of Owner.Class q).by
 
 -- the end of an individual table takes two bytes, and its address three
 ends_bytes : (s : Size) (b : Bool) → nat_lt 0 s.individuals ≡ b → (with_table s).bytes ≡ s.bytes + (if b then 5 else 0)
-ends_bytes s b e = ap (λ (c : Bool). (if c then record s { bytes = s.bytes + 5; fixups = s.fixups + 1 } else s).bytes) e ∙ go b
-  where
-    go : (b : Bool) → (if b then record s { bytes = s.bytes + 5; fixups = s.fixups + 1 } else s).bytes ≡ s.bytes + (if b then 5 else 0)
-    go true = refl
-    go false = omega arith
+ends_bytes s b e = ap (λ (c : Bool). (if c then record s { bytes = s.bytes + 5; fixups = s.fixups + 1 } else s).bytes) e ∙ go b where
+  go : (b : Bool) → (if b then record s { bytes = s.bytes + 5; fixups = s.fixups + 1 } else s).bytes ≡ s.bytes + (if b then 5 else 0)
+  go true = refl
+  go false = omega arith
 
 ends_fixups : (s : Size) (b : Bool) → nat_lt 0 s.individuals ≡ b → (with_table s).fixups ≡ s.fixups + (if b then 1 else 0)
-ends_fixups s b e = ap (λ (c : Bool). (if c then record s { bytes = s.bytes + 5; fixups = s.fixups + 1 } else s).fixups) e ∙ go b
-  where
-    go : (b : Bool) → (if b then record s { bytes = s.bytes + 5; fixups = s.fixups + 1 } else s).fixups ≡ s.fixups + (if b then 1 else 0)
-    go true = refl
-    go false = omega arith
+ends_fixups s b e = ap (λ (c : Bool). (if c then record s { bytes = s.bytes + 5; fixups = s.fixups + 1 } else s).fixups) e ∙ go b where
+  go : (b : Bool) → (if b then record s { bytes = s.bytes + 5; fixups = s.fixups + 1 } else s).fixups ≡ s.fixups + (if b then 1 else 0)
+  go true = refl
+  go false = omega arith
 
 -- the parts that an object needs, given whether it has an individual table
 abbrev measured_with : Bool → Object → Measure
@@ -137,33 +129,32 @@ measured_with b o = record {
 
 counted_object : (o : Object) (b : Bool) → has_individual o.properties ≡ b → o.owner ≡ Owner.Object →
     CountedBy Owner.Object o (measured_with b o)
-counted_object o b is e = go b is
-  where
-    ps : List Property
-    ps = o.properties
+counted_object o b is e = go b is where
+  ps : List Property
+  ps = o.properties
 
-    bytes : object_bytes o ≡ head_bytes Owner.Object (length o.name) (length o.classes) + table_bytes Owner.Object ps
-    bytes = ap (λ w. head_bytes w (length o.name) (length o.classes) + table_bytes w ps) e
+  bytes : object_bytes o ≡ head_bytes Owner.Object (length o.name) (length o.classes) + table_bytes Owner.Object ps
+  bytes = ap (λ w. head_bytes w (length o.name) (length o.classes) + table_bytes w ps) e
 
-    fixups : object_fixups o ≡ head_fixups Owner.Object + (with_table (total Owner.Object ps)).fixups
-    fixups = ap (λ w. head_fixups w + (with_table (total w ps)).fixups) e
+  fixups : object_fixups o ≡ head_fixups Owner.Object + (with_table (total Owner.Object ps)).fixups
+  fixups = ap (λ w. head_fixups w + (with_table (total w ps)).fixups) e
 
-    all : ((parts_of false ps).bytes + (parts_of true ps).bytes ≡ bytes_of Owner.Object ps) ×
-        ((parts_of false ps).later + (parts_of true ps).later ≡ fixups_of Owner.Object ps)
-    all = all_parts ps
+  all : ((parts_of false ps).bytes + (parts_of true ps).bytes ≡ bytes_of Owner.Object ps) ×
+      ((parts_of false ps).later + (parts_of true ps).later ≡ fixups_of Owner.Object ps)
+  all = all_parts ps
 
-    go : (b : Bool) → has_individual ps ≡ b → CountedBy Owner.Object o (measured_with b o)
-    go true is =
-        let ends = individuals_are ps ∙ is in (
-          omega (arith, bytes, all.0, ends_bytes (total Owner.Object ps) true ends),
-          omega (arith, fixups, all.1, ends_fixups (total Owner.Object ps) true ends),
-        )
-    go false is =
-        let ends = individuals_are ps ∙ is in
-        let none = none_of_kind ps is in (
-          omega (arith, bytes, all.0, none.0, ends_bytes (total Owner.Object ps) false ends),
-          omega (arith, fixups, all.1, none.1, ends_fixups (total Owner.Object ps) false ends),
-        )
+  go : (b : Bool) → has_individual ps ≡ b → CountedBy Owner.Object o (measured_with b o)
+  go true is =
+      let ends = individuals_are ps ∙ is in (
+        omega (arith, bytes, all.0, ends_bytes (total Owner.Object ps) true ends),
+        omega (arith, fixups, all.1, ends_fixups (total Owner.Object ps) true ends),
+      )
+  go false is =
+      let ends = individuals_are ps ∙ is in
+      let none = none_of_kind ps is in (
+        omega (arith, bytes, all.0, none.0, ends_bytes (total Owner.Object ps) false ends),
+        omega (arith, fixups, all.1, none.1, ends_fixups (total Owner.Object ps) false ends),
+      )
 
 counted_by : (w : Owner) (o : Object) → o.owner ≡ w → CountedBy w o (measure_by w o)
 counted_by Owner.Object o e = counted_object o (has_individual o.properties) refl e

@@ -23,39 +23,37 @@ below_out k f p h = ap (λ (b : Bool). if b then f p else 0) (le-ltb p.number k 
 
 -- a bound higher by one makes a difference to the property with that number alone
 below_other : (k : ℕ) (f : Property → ℕ) (p : Property) → (p.number ≡ k → ⊥) → below (suc k) f p ≡ below k f p
-below_other k f p e =
-    elim (cases_lt p.number k) [
-      | inl h ↦ below_in (suc k) f p (omega (arith, h)) ∙ sym (below_in k f p h)
-      | inr h ↦ below_out (suc k) f p (omega (arith, h, e)) ∙ sym (below_out k f p h)
-    ]
+below_other k f p e = elim (cases_lt p.number k) [
+  | inl h ↦ below_in (suc k) f p (omega (arith, h)) ∙ sym (below_in k f p h)
+  | inr h ↦ below_out (suc k) f p (omega (arith, h, e)) ∙ sym (below_out k f p h)
+]
 
 -- a property more in front, whose number no property behind it has, adds its measure to the sum
 pub sum_falling-cons : (f : Property → ℕ) (k : ℕ) (p : Property) (ps : List Property) → has p.number ps ≡ false
     → sum_by f (falling k (p ∷ ps)) ≡ sum_by f (falling k ps) + below k f p
 sum_falling-cons f zero p ps absent = omega (arith, below_out 0 f p (omega arith))
-sum_falling-cons f (suc k) p ps absent = go (p.number == k) refl (sum_falling-cons f k p ps absent)
-  where
-    go : (b : Bool) → (p.number == k) ≡ b → sum_by f (falling k (p ∷ ps)) ≡ sum_by f (falling k ps) + below k f p
-        → sum_by f (option_to_list (if b then Some p else found k ps) ++ falling k (p ∷ ps)) ≡ sum_by f
-        (option_to_list (found k ps) ++ falling k ps) + below (suc k) f p
-    go true is later =
-        let same : p.number ≡ k = eqb-true p.number k is in
-        let gone = none-found k ps (ap (λ n. has n ps) (sym same) ∙ absent) in
-        let left = sum_by-append f (option_to_list (Some p)) (falling k (p ∷ ps)) in
-        let right = ap (λ o. sum_by f (option_to_list o ++ falling k ps)) gone in
-        omega (
-          arith,
-          left,
-          right,
-          later,
-          sum_by-cons f p [],
-          below_out k f p (omega (arith, same)),
-          below_in (suc k) f p (omega (arith, same)),
-        )
-    go false is later =
-        let left = sum_by-append f (option_to_list (found k ps)) (falling k (p ∷ ps)) in
-        let right = sum_by-append f (option_to_list (found k ps)) (falling k ps) in
-        omega (arith, left, right, later, below_other k f p (eqb-false p.number k is))
+sum_falling-cons f (suc k) p ps absent = go (p.number == k) refl (sum_falling-cons f k p ps absent) where
+  go : (b : Bool) → (p.number == k) ≡ b → sum_by f (falling k (p ∷ ps)) ≡ sum_by f (falling k ps) + below k f p
+      → sum_by f (option_to_list (if b then Some p else found k ps) ++ falling k (p ∷ ps)) ≡ sum_by f
+      (option_to_list (found k ps) ++ falling k ps) + below (suc k) f p
+  go true is later =
+      let same : p.number ≡ k = eqb-true p.number k is in
+      let gone = none-found k ps (ap (λ n. has n ps) (sym same) ∙ absent) in
+      let left = sum_by-append f (option_to_list (Some p)) (falling k (p ∷ ps)) in
+      let right = ap (λ o. sum_by f (option_to_list o ++ falling k ps)) gone in
+      omega (
+        arith,
+        left,
+        right,
+        later,
+        sum_by-cons f p [],
+        below_out k f p (omega (arith, same)),
+        below_in (suc k) f p (omega (arith, same)),
+      )
+  go false is later =
+      let left = sum_by-append f (option_to_list (found k ps)) (falling k (p ∷ ps)) in
+      let right = sum_by-append f (option_to_list (found k ps)) (falling k ps) in
+      omega (arith, left, right, later, below_other k f p (eqb-false p.number k is))
 
 nothing_falls : (f : Property → ℕ) (k : ℕ) → sum_by f (falling k []) ≡ 0
 nothing_falls f zero = refl
@@ -71,15 +69,14 @@ sum_falling f k before (p ∷ ps) h =
 -- the address of an individual table in front of other properties adds its measure to the sum
 sum_address : (f : Property → ℕ) (k part : ℕ) (qs ps : List Property) → 3 < k → has 3 ps ≡ false
     → sum_by f (falling k (address_rows part qs ++ ps)) ≡ sum_by f (address_rows part qs) + sum_by f (falling k ps)
-sum_address f k part qs ps h absent = go (has_individual qs)
-  where
-    row : Property
-    row = record { number = 3; is_additive = false; values = Value.Later (Target.Part AreaName.IndividualTables part) ∷ [] }
+sum_address f k part qs ps h absent = go (has_individual qs) where
+  row : Property
+  row = record { number = 3; is_additive = false; values = Value.Later (Target.Part AreaName.IndividualTables part) ∷ [] }
 
-    go : (b : Bool) →
-        sum_by f (falling k ((if b then row ∷ [] else []) ++ ps)) ≡ sum_by f (if b then row ∷ [] else []) + sum_by f (falling k ps)
-    go true = omega (arith, sum_falling-cons f k row ps absent, below_in k f row h, sum_by-cons f row [])
-    go false = omega arith
+  go : (b : Bool) →
+      sum_by f (falling k ((if b then row ∷ [] else []) ++ ps)) ≡ sum_by f (if b then row ∷ [] else []) + sum_by f (falling k ps)
+  go true = omega (arith, sum_falling-cons f k row ps absent, below_in k f row h, sum_by-cons f row [])
+  go false = omega arith
 
 absent_behind : (n : ℕ) (xs ys : List Property) → found n xs ≡ None → has n ys ≡ false → has n (xs ++ ys) ≡ false
 absent_behind n xs ys e h = ap is_some (found-append n xs ys ∙ ap (λ o. or_found o (found n ys)) e) ∙ h
@@ -96,8 +93,7 @@ pub sum_rows : (f : Property → ℕ) (k part : ℕ) (o : Object) → 3 < k → 
     → sum_by f (falling k (rows_by Owner.Object part o)) ≡ sum_by f (class_rows o.classes) + sum_by f (address_rows part o.properties) +
     sum_by (below k f) o.properties
 sum_rows f k part o h new free =
-    let ps = o.properties in
-    let rows = address_rows part ps in
+    let ps = o.properties in let rows = address_rows part ps in
     let lists = append_assoc (class_rows o.classes) rows ps in
     omega (
       arith,

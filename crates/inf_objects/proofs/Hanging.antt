@@ -51,8 +51,7 @@ set-each first (suc count) f zero link h =
 set-each first (suc count) f (suc place) link h =
     let there : first + 1 + place ≡ first + suc place = omega arith in
     ap (λ l. l ∷ slice_set (each_from (first + 1) count f) place link)
-    (sym (but-there (first + suc place) link f first (λ e. omega (arith, e))))
-    ∙ ap (λ ls. but_at (first + suc place) link f first ∷ ls)
+    (sym (but-there (first + suc place) link f first (λ e. omega (arith, e)))) ∙ ap (λ ls. but_at (first + suc place) link f first ∷ ls)
     (set-each (first + 1) count f place link (omega arith) ∙ ap (λ n. each_from (first + 1) count (but_at n link f)) there)
 
 pub nothing-each : (first count : ℕ) → replicate count no_link ≡ each_from first count (λ n. no_link)
@@ -93,50 +92,47 @@ both s s' c c' d e = ap (λ n. linked_to n c) d ∙ ap (linked_to s') e
 
 hung-is : (place p : ℕ) (parents : List ℕ) (n : ℕ) → (p == 0) ≡ false →
     hung place p (link_from (place + 1) parents) n ≡ link_from place (p ∷ parents) n
-hung-is place p parents n e =
-    elim (cases_eq n p) [
-      | inl same ↦ subst (λ m. hung place p f m ≡ link_from place (p ∷ parents) m) (sym same) own
-      | inr other ↦ but-there p up side n other ∙ beside other (cases_eq n (place + 1))
-    ]
-  where
-    f : ℕ → Link
-    f = link_from (place + 1) parents
+hung-is place p parents n e = elim (cases_eq n p) [
+  | inl same ↦ subst (λ m. hung place p f m ≡ link_from place (p ∷ parents) m) (sym same) own
+  | inr other ↦ but-there p up side n other ∙ beside other (cases_eq n (place + 1))
+] where
+  f : ℕ → Link
+  f = link_from (place + 1) parents
 
-    gone : Link
-    gone = record (f (place + 1)) { sibling = (f p).child }
+  gone : Link
+  gone = record (f (place + 1)) { sibling = (f p).child }
 
-    side : ℕ → Link
-    side = but_at (place + 1) gone f
+  side : ℕ → Link
+  side = but_at (place + 1) gone f
 
-    up : Link
-    up = record (side p) { child = place + 1 }
+  up : Link
+  up = record (side p) { child = place + 1 }
 
-    last : (m : ℕ) → m ≡ place + 1 → (f p).child ≡ sibling_from m (place + 1) (p ∷ parents)
-    last m at = sym (sibling-step m (place + 1) p parents true (eq-eqb m (place + 1) at) ∙ next-step p (place + 1 + 1) parents e)
+  last : (m : ℕ) → m ≡ place + 1 → (f p).child ≡ sibling_from m (place + 1) (p ∷ parents)
+  last m at = sym (sibling-step m (place + 1) p parents true (eq-eqb m (place + 1) at) ∙ next-step p (place + 1 + 1) parents e)
 
-    further : (m : ℕ) → (m ≡ place + 1 → ⊥) → (f m).sibling ≡ sibling_from m (place + 1) (p ∷ parents)
-    further m isnt = sym (sibling-step m (place + 1) p parents false (ne_eqb m (place + 1) isnt))
+  further : (m : ℕ) → (m ≡ place + 1 → ⊥) → (f m).sibling ≡ sibling_from m (place + 1) (p ∷ parents)
+  further m isnt = sym (sibling-step m (place + 1) p parents false (ne_eqb m (place + 1) isnt))
 
-    above : (n ≡ p → ⊥) → (f n).child ≡ first_of (children_from (place + 1) n (p ∷ parents))
-    above other = sym (child-step n (place + 1) p parents false (ne_eqb p n (λ same. other (sym same))))
+  above : (n ≡ p → ⊥) → (f n).child ≡ first_of (children_from (place + 1) n (p ∷ parents))
+  above other = sym (child-step n (place + 1) p parents false (ne_eqb p n (λ same. other (sym same))))
 
-    own_sibling : (p ≡ place + 1) ⊎ (p ≡ place + 1 → ⊥) → (side p).sibling ≡ sibling_from p (place + 1) (p ∷ parents)
-    own_sibling (inl at) = ap (λ (b : Bool). (if b then gone else f p).sibling) (eq-eqb p (place + 1) at) ∙ last p at
-    own_sibling (inr isnt) = ap (λ (b : Bool). (if b then gone else f p).sibling) (ne_eqb p (place + 1) isnt) ∙ further p isnt
+  own_sibling : (p ≡ place + 1) ⊎ (p ≡ place + 1 → ⊥) → (side p).sibling ≡ sibling_from p (place + 1) (p ∷ parents)
+  own_sibling (inl at) = ap (λ (b : Bool). (if b then gone else f p).sibling) (eq-eqb p (place + 1) at) ∙ last p at
+  own_sibling (inr isnt) = ap (λ (b : Bool). (if b then gone else f p).sibling) (ne_eqb p (place + 1) isnt) ∙ further p isnt
 
-    own : hung place p f p ≡ link_from place (p ∷ parents) p
-    own = but-here p up side ∙ both (side p).sibling (sibling_from p (place + 1) (p ∷ parents)) (place + 1)
-        (first_of (children_from (place + 1) p (p ∷ parents)))
-        (own_sibling (cases_eq p (place + 1))) (sym (child-step p (place + 1) p parents true (eq-eqb p p refl)))
+  own : hung place p f p ≡ link_from place (p ∷ parents) p
+  own = but-here p up side ∙ both (side p).sibling (sibling_from p (place + 1) (p ∷ parents)) (place + 1)
+      (first_of (children_from (place + 1) p (p ∷ parents)))
+      (own_sibling (cases_eq p (place + 1))) (sym (child-step p (place + 1) p parents true (eq-eqb p p refl)))
 
-    beside : (n ≡ p → ⊥) → (n ≡ place + 1) ⊎ (n ≡ place + 1 → ⊥) → side n ≡ link_from place (p ∷ parents) n
-    beside other (inl at) = ap (λ (b : Bool). if b then gone else f n) (eq-eqb n (place + 1) at)
-        ∙ both (f p).child (sibling_from n (place + 1) (p ∷ parents)) (f (place + 1)).child
-        (first_of (children_from (place + 1) n (p ∷ parents)))
-        (last n at) (ap (λ m. (f m).child) (sym at) ∙ above other)
-    beside other (inr isnt) = but-there (place + 1) gone f n isnt
-        ∙ both (f n).sibling (sibling_from n (place + 1) (p ∷ parents)) (f n).child (first_of (children_from (place + 1) n (p ∷ parents)))
-        (further n isnt) (above other)
+  beside : (n ≡ p → ⊥) → (n ≡ place + 1) ⊎ (n ≡ place + 1 → ⊥) → side n ≡ link_from place (p ∷ parents) n
+  beside other (inl at) = ap (λ (b : Bool). if b then gone else f n) (eq-eqb n (place + 1) at)
+      ∙ both (f p).child (sibling_from n (place + 1) (p ∷ parents)) (f (place + 1)).child
+      (first_of (children_from (place + 1) n (p ∷ parents))) (last n at) (ap (λ m. (f m).child) (sym at) ∙ above other)
+  beside other (inr isnt) = but-there (place + 1) gone f n isnt
+      ∙ both (f n).sibling (sibling_from n (place + 1) (p ∷ parents)) (f n).child (first_of (children_from (place + 1) n (p ∷ parents)))
+      (further n isnt) (above other)
 
 -- a number below that of the first object of a list has no sibling in it
 sibling-before : (n first : ℕ) (ps : List ℕ) → n < first → sibling_from n first ps ≡ 0
@@ -174,30 +170,28 @@ child-each count f place c h =
 
 linked-each : (place p count : ℕ) (parents : List ℕ) → place < count → p ≤ count
     → linked place p (each_from 1 count (link_from (place + 1) parents)) ≡ each_from 1 count (link_from place (p ∷ parents))
-linked-each place p count parents h k = go (p == 0) refl
-  where
-    f : ℕ → Link
-    f = link_from (place + 1) parents
+linked-each place p count parents h k = go (p == 0) refl where
+  f : ℕ → Link
+  f = link_from (place + 1) parents
 
-    links : List Link
-    links = each_from 1 count f
+  links : List Link
+  links = each_from 1 count f
 
-    go : (b : Bool) → (p == 0) ≡ b
-        → (if b then links else with_child (p - 1) (place + 1) (with_sibling place (link_at links (p - 1)).child links)) ≡ each_from 1 count
-        (link_from place (p ∷ parents))
-    go true e = same-each 1 count f (link_from place (p ∷ parents)) (λ n from. root-is place p parents n (eqb-true p 0 e) from)
-    go false e =
-        let some : p ≡ p - 1 + 1 = omega (arith, eqb-false p 0 e) in
-        let less : p - 1 < count = omega (arith, eqb-false p 0 e, k) in
-        let front : 1 + (p - 1) ≡ p = omega (arith, eqb-false p 0 e) in
-        let child : (link_at links (p - 1)).child ≡ (f p).child =
-        ap (λ (l : Link). l.child) (get-each 1 count f (p - 1) no_link less ∙ ap f front) in
-        let side = but_at (place + 1) (record (f (place + 1)) { sibling = (f p).child }) f in
-        ap (λ c. with_child (p - 1) (place + 1) (with_sibling place c links)) child
-        ∙ ap (with_child (p - 1) (place + 1)) (sibling-each count f place (f p).child h)
-        ∙ child-each count side (p - 1) (place + 1) less
-        ∙ ap (λ n. each_from 1 count (but_at n (record (side n) { child = place + 1 }) side)) (sym some)
-        ∙ same-each 1 count (hung place p f) (link_from place (p ∷ parents)) (λ n from. hung-is place p parents n e)
+  go : (b : Bool) → (p == 0) ≡ b
+      → (if b then links else with_child (p - 1) (place + 1) (with_sibling place (link_at links (p - 1)).child links)) ≡ each_from 1 count
+      (link_from place (p ∷ parents))
+  go true e = same-each 1 count f (link_from place (p ∷ parents)) (λ n from. root-is place p parents n (eqb-true p 0 e) from)
+  go false e =
+      let some : p ≡ p - 1 + 1 = omega (arith, eqb-false p 0 e) in
+      let less : p - 1 < count = omega (arith, eqb-false p 0 e, k) in
+      let front : 1 + (p - 1) ≡ p = omega (arith, eqb-false p 0 e) in
+      let child : (link_at links (p - 1)).child ≡ (f p).child =
+      ap (λ (l : Link). l.child) (get-each 1 count f (p - 1) no_link less ∙ ap f front) in
+      let side = but_at (place + 1) (record (f (place + 1)) { sibling = (f p).child }) f in
+      ap (λ c. with_child (p - 1) (place + 1) (with_sibling place c links)) child
+      ∙ ap (with_child (p - 1) (place + 1)) (sibling-each count f place (f p).child h) ∙ child-each count side (p - 1) (place + 1) less
+      ∙ ap (λ n. each_from 1 count (but_at n (record (side n) { child = place + 1 }) side)) (sym some)
+      ∙ same-each 1 count (hung place p f) (link_from place (p ∷ parents)) (λ n from. hung-is place p parents n e)
 
 pub made-each : (place count : ℕ) (parents : List ℕ) → place + length parents ≡ count → AreWithin count parents
     → made place parents (each_from 1 count (λ n. no_link)) ≡ each_from 1 count (link_from place parents)

@@ -76,12 +76,10 @@ row_rest f m vs rest h = drop_front m (filled f (values_cells (shown vs))) rest 
 short_row : (f : Target → ℕ) (most n : ℕ) (vs : List Value) (rest : List ℕ) → n < 64 → length (shown vs) ≡ 1
     → rows_read (suc most) ((64 + n) ∷ (filled f (values_cells (shown vs)) ++ rest)) ≡ told_of f n vs ∷ rows_read most rest
 short_row f most n vs rest h one =
-    let bytes = filled f (values_cells (shown vs)) ++ rest in
-    let number : (64 + n) % 64 ≡ n = omega (arith, h) in
+    let bytes = filled f (values_cells (shown vs)) ++ rest in let number : (64 + n) % 64 ≡ n = omega (arith, h) in
     let count : 1 + (64 + n) / 64 % 2 ≡ 2 = omega (arith, h) in
     let two : 2 * length (shown vs) ≡ 1 + (64 + n) / 64 % 2 = omega (arith, one, count) in
-    read_short most (64 + n) bytes (omega arith) (omega (arith, h))
-    ∙ ap (λ r. r ∷ rows_read most (drop (1 + (64 + n) / 64 % 2) bytes))
+    read_short most (64 + n) bytes (omega arith) (omega (arith, h)) ∙ ap (λ r. r ∷ rows_read most (drop (1 + (64 + n) / 64 % 2) bytes))
     (row_data f n ((64 + n) % 64) (1 + (64 + n) / 64 % 2) vs rest number two)
     ∙ ap (λ bs. told_of f n vs ∷ rows_read most bs) (row_rest f (1 + (64 + n) / 64 % 2) vs rest two)
 
@@ -91,12 +89,10 @@ long_row : (f : Target → ℕ) (most n : ℕ) (vs : List Value) (rest : List �
     → rows_read (suc most) ((128 + n) ∷ (128 + 2 * length vs % 64) ∷ (filled f (values_cells (shown vs)) ++ rest)) ≡ told_of f n vs ∷
     rows_read most rest
 long_row f most n vs rest h same more few =
-    let bytes = filled f (values_cells (shown vs)) ++ rest in
-    let second = 128 + 2 * length vs % 64 in
+    let bytes = filled f (values_cells (shown vs)) ++ rest in let second = 128 + 2 * length vs % 64 in
     let number : (128 + n) % 64 ≡ n = omega (arith, h) in
     let count : 2 * length (shown vs) ≡ long_count second = go (second % 64 == 0) refl in
-    read_long most (128 + n) (second ∷ bytes) (omega arith)
-    ∙ ap (λ r. r ∷ rows_read most (drop (1 + long_count second) (second ∷ bytes)))
+    read_long most (128 + n) (second ∷ bytes) (omega arith) ∙ ap (λ r. r ∷ rows_read most (drop (1 + long_count second) (second ∷ bytes)))
     (row_data f n ((128 + n) % 64) (long_count second) vs rest number count)
     ∙ ap (λ bs. told_of f n vs ∷ rows_read most bs) (behind second bytes ∙ row_rest f (long_count second) vs rest count)
   where
@@ -116,8 +112,7 @@ row_by f most n (v ∷ []) rest h few = short_row f most n (v ∷ []) rest h ref
 row_by f most n (v ∷ w ∷ vs) rest h few =
     let more : 1 < length (v ∷ w ∷ vs) = omega arith in
     ap (λ (b : Bool). rows_read (suc most) (filled f ((if b then Cell.Byte (64 + n) ∷ [] else Cell.Byte (128 + n) ∷ Cell.Byte
-    (128 + 2 * length (v ∷ w ∷ vs) % 64) ∷ [])
-    ++ values_cells (v ∷ w ∷ vs)) ++ rest)) (lt-leb (length (v ∷ w ∷ vs)) 1 more)
+    (128 + 2 * length (v ∷ w ∷ vs) % 64) ∷ []) ++ values_cells (v ∷ w ∷ vs)) ++ rest)) (lt-leb (length (v ∷ w ∷ vs)) 1 more)
     ∙ long_row f most n (v ∷ w ∷ vs) rest h refl more few
 
 -- tells whether a table can have these properties
@@ -138,12 +133,11 @@ rows_are_read f (suc most) (p ∷ ps) rest h few =
 
 -- each property has at least one byte
 row_some : (f : Target → ℕ) (p : Property) → 1 ≤ length (filled f (row_cells p))
-row_some f p = go (nat_le (length p.values) 1)
-  where
-    go : (b : Bool) → 1 ≤ length (filled f ((if b then Cell.Byte (64 + p.number) ∷ [] else Cell.Byte (128 + p.number) ∷ Cell.Byte
-        (128 + 2 * length p.values % 64) ∷ []) ++ values_cells (shown p.values)))
-    go true = omega arith
-    go false = omega arith
+row_some f p = go (nat_le (length p.values) 1) where
+  go : (b : Bool) → 1 ≤ length (filled f ((if b then Cell.Byte (64 + p.number) ∷ [] else Cell.Byte (128 + p.number) ∷ Cell.Byte
+      (128 + 2 * length p.values % 64) ∷ []) ++ values_cells (shown p.values)))
+  go true = omega arith
+  go false = omega arith
 
 rows_some : (f : Target → ℕ) (ps : List Property) → length ps ≤ length (filled f (rows_cells ps))
 rows_some f [] = omega arith
@@ -160,8 +154,7 @@ filled-bytes f [] = refl
 filled-bytes f (b ∷ bs) = ap (λ cs. b ∷ cs) (filled-bytes f bs)
 
 pub table_is_read : (f : Target → ℕ) (name : List ℕ) (words : ℕ) (ps : List Property) (rest : List ℕ) → length name ≡ 2 * words →
-    words < 256 → AreRows ps
-    → table_read (filled f (name_cells name ++ rows_cells ps ++ Cell.Byte 0 ∷ []) ++ rest) ≡ map (told f) ps
+    words < 256 → AreRows ps → table_read (filled f (name_cells name ++ rows_cells ps ++ Cell.Byte 0 ∷ []) ++ rest) ≡ map (told f) ps
 table_is_read f name words ps rest e few h =
     let rows = filled f (rows_cells ps) in
     let count : 2 * (length name / 2 % 256) ≡ length name = omega (arith, e, few) in
@@ -186,20 +179,17 @@ table_is_read f name words ps rest e few h =
 -- The rows of an object fall in number, and each is the property that the object has of its number.
 found_number : (n : ℕ) (ps : List Property) (p : Property) → found n ps ≡ Some p → p.number ≡ n
 found_number n [] p e = cc
-found_number n (q ∷ ps) p e = go (q.number == n) refl e (found_number n ps p)
-  where
-    go : (b : Bool) → (q.number == n) ≡ b → (if b then Some q else found n ps) ≡ Some p → (found n ps ≡ Some p → p.number ≡ n) →
-        p.number ≡ n
-    go true same is later = let this : q ≡ p = cc in ap (λ (r : Property). r.number) (sym this) ∙ eqb-true q.number n same
-    go false other is later = later is
+found_number n (q ∷ ps) p e = go (q.number == n) refl e (found_number n ps p) where
+  go : (b : Bool) → (q.number == n) ≡ b → (if b then Some q else found n ps) ≡ Some p → (found n ps ≡ Some p → p.number ≡ n) → p.number ≡ n
+  go true same is later = let this : q ≡ p = cc in ap (λ (r : Property). r.number) (sym this) ∙ eqb-true q.number n same
+  go false other is later = later is
 
 pub falling_rows : (k : ℕ) (ps : List Property) → k ≤ 64 → are_short ps ≡ true → AreRows (falling k ps)
 falling_rows zero ps h short = tt
-falling_rows (suc k) ps h short = go (found k ps) refl (falling_rows k ps (omega (arith, h)) short)
-  where
-    go : (o : Option Property) → found k ps ≡ o → AreRows (falling k ps) → AreRows (option_to_list o ++ falling k ps)
-    go None e later = later
-    go (Some p) e later = let this = found_one k ps p e short in (omega (arith, this.0, h), this.1, later)
+falling_rows (suc k) ps h short = go (found k ps) refl (falling_rows k ps (omega (arith, h)) short) where
+  go : (o : Option Property) → found k ps ≡ o → AreRows (falling k ps) → AreRows (option_to_list o ++ falling k ps)
+  go None e later = later
+  go (Some p) e later = let this = found_one k ps p e short in (omega (arith, this.0, h), this.1, later)
 
 below_more : (k : ℕ) (ps : List Property) → AreFallingBelow k ps → AreFallingBelow (suc k) ps
 below_more k [] h = tt
@@ -207,14 +197,13 @@ below_more k (p ∷ ps) h = (omega (arith, h.0), h.1)
 
 pub falling_below : (k : ℕ) (ps : List Property) → AreFallingBelow k (falling k ps)
 falling_below zero ps = tt
-falling_below (suc k) ps = go (found k ps) refl (falling_below k ps)
-  where
-    go : (o : Option Property) → found k ps ≡ o → AreFallingBelow k (falling k ps) →
-        AreFallingBelow (suc k) (option_to_list o ++ falling k ps)
-    go None e later = below_more k (falling k ps) later
-    go (Some p) e later =
-        let number = found_number k ps p e in
-        (omega (arith, number), subst (λ n. AreFallingBelow n (falling k ps)) (sym number) later)
+falling_below (suc k) ps = go (found k ps) refl (falling_below k ps) where
+  go : (o : Option Property) → found k ps ≡ o → AreFallingBelow k (falling k ps) →
+      AreFallingBelow (suc k) (option_to_list o ++ falling k ps)
+  go None e later = below_more k (falling k ps) later
+  go (Some p) e later =
+      let number = found_number k ps p e in
+      (omega (arith, number), subst (λ n. AreFallingBelow n (falling k ps)) (sym number) later)
 
 -- no property has a number that is not below the bound
 not_below : (n k : ℕ) (ps : List Property) → k ≤ n → AreFallingBelow k ps → found n ps ≡ None
@@ -224,24 +213,22 @@ not_below n k (p ∷ ps) h f = ap (λ (b : Bool). if b then Some p else found n 
 
 pub found_falling : (n k : ℕ) (ps : List Property) → n < k → found n (falling k ps) ≡ found n ps
 found_falling n zero ps h = absurd (omega (arith, h))
-found_falling n (suc k) ps h = found-append n (option_to_list (found k ps)) (falling k ps) ∙ go (n == k) refl (found_falling n k ps)
-  where
-    one : (o : Option Property) → found k ps ≡ o → (n ≡ k) → or_found (found n (option_to_list o)) (found n (falling k ps)) ≡ found n ps
-    one None e same = not_below n k (falling k ps) (omega (arith, same)) (falling_below k ps) ∙ sym (ap (λ m. found m ps) same ∙ e)
-    one (Some p) e same = ap (λ (b : Bool). or_found (if b then Some p else None) (found n (falling k ps)))
-        (eq-eqb p.number n (found_number k ps p e ∙ sym same))
-        ∙ sym (ap (λ m. found m ps) same ∙ e)
+found_falling n (suc k) ps h = found-append n (option_to_list (found k ps)) (falling k ps) ∙ go (n == k) refl (found_falling n k ps) where
+  one : (o : Option Property) → found k ps ≡ o → (n ≡ k) → or_found (found n (option_to_list o)) (found n (falling k ps)) ≡ found n ps
+  one None e same = not_below n k (falling k ps) (omega (arith, same)) (falling_below k ps) ∙ sym (ap (λ m. found m ps) same ∙ e)
+  one (Some p) e same = ap (λ (b : Bool). or_found (if b then Some p else None) (found n (falling k ps)))
+      (eq-eqb p.number n (found_number k ps p e ∙ sym same)) ∙ sym (ap (λ m. found m ps) same ∙ e)
 
-    other : (o : Option Property) → found k ps ≡ o → (n ≡ k → ⊥) → found n (falling k ps) ≡ found n ps →
-        or_found (found n (option_to_list o)) (found n (falling k ps)) ≡ found n ps
-    other None e isnt later = later
-    other (Some p) e isnt later = ap (λ (b : Bool). or_found (if b then Some p else None) (found n (falling k ps)))
-        (ne_eqb p.number n (λ same. isnt (sym same ∙ found_number k ps p e))) ∙ later
+  other : (o : Option Property) → found k ps ≡ o → (n ≡ k → ⊥) → found n (falling k ps) ≡ found n ps →
+      or_found (found n (option_to_list o)) (found n (falling k ps)) ≡ found n ps
+  other None e isnt later = later
+  other (Some p) e isnt later = ap (λ (b : Bool). or_found (if b then Some p else None) (found n (falling k ps)))
+      (ne_eqb p.number n (λ same. isnt (sym same ∙ found_number k ps p e))) ∙ later
 
-    go : (b : Bool) → (n == k) ≡ b → (n < k → found n (falling k ps) ≡ found n ps) →
-        or_found (found n (option_to_list (found k ps))) (found n (falling k ps)) ≡ found n ps
-    go true same later = one (found k ps) refl (eqb-true n k same)
-    go false isnt later = other (found k ps) refl (eqb-false n k isnt) (later (omega (arith, h, eqb-false n k isnt)))
+  go : (b : Bool) → (n == k) ≡ b → (n < k → found n (falling k ps) ≡ found n ps) →
+      or_found (found n (option_to_list (found k ps))) (found n (falling k ps)) ≡ found n ps
+  go true same later = one (found k ps) refl (eqb-true n k same)
+  go false isnt later = other (found k ps) refl (eqb-false n k isnt) (later (omega (arith, h, eqb-false n k isnt)))
 
 short_classes : (cs : List ℕ) → length cs ≤ 32 → are_short (class_rows cs) ≡ true
 short_classes [] h = refl
@@ -249,14 +236,13 @@ short_classes (c ∷ cs) h = and_from (nat_le (length (class_values (c ∷ cs)))
     (le-leb (length (class_values (c ∷ cs))) 32 (omega (arith, length-class_values (c ∷ cs), h))) refl
 
 short_address : (part : ℕ) (ps : List Property) → are_short (address_rows part ps) ≡ true
-short_address part ps = go (has_individual ps)
-  where
-    row : Property
-    row = record { number = 3; is_additive = false; values = Value.Later (Target.Part AreaName.IndividualTables part) ∷ [] }
+short_address part ps = go (has_individual ps) where
+  row : Property
+  row = record { number = 3; is_additive = false; values = Value.Later (Target.Part AreaName.IndividualTables part) ∷ [] }
 
-    go : (b : Bool) → are_short (if b then row ∷ [] else []) ≡ true
-    go true = refl
-    go false = refl
+  go : (b : Bool) → are_short (if b then row ∷ [] else []) ≡ true
+  go true = refl
+  go false = refl
 
 pub short_rows : (w : Owner) (part : ℕ) (o : Object) → length o.classes ≤ 32 → are_short o.properties ≡ true →
     are_short (rows_by w part o) ≡ true
@@ -264,7 +250,6 @@ short_rows Owner.Object part o few short = list_all-append is_short (class_rows 
     ∙ and_from (are_short (class_rows o.classes ++ address_rows part o.properties)) (are_short o.properties)
     (list_all-append is_short (class_rows o.classes) (address_rows part o.properties)
     ∙ and_from (are_short (class_rows o.classes)) (are_short (address_rows part o.properties)) (short_classes o.classes few)
-    (short_address part o.properties))
-    short
+    (short_address part o.properties)) short
 short_rows Owner.Class part o few short = refl
 short_rows Owner.Nothing part o few short = refl

@@ -53,19 +53,15 @@ walk parents (suc most) first parent (p ∷ rest) e f g h is = go (p == parent) 
         → walked most (links_of parents) (first_of (children_from (first + 1) parent rest)) ≡ children_from (first + 1) parent rest
         → walked (suc most) (links_of parents) (first_of (children_from (first + 1) parent rest)) ≡ children_from (first + 1) parent rest
         → walked (suc most) (links_of parents) (first_of (if b then first ∷ children_from (first + 1) parent rest else children_from
-        (first + 1) parent rest))
-        ≡ (if b then first ∷ children_from (first + 1) parent rest else children_from (first + 1) parent rest)
+        (first + 1) parent rest)) ≡ (if b then first ∷ children_from (first + 1) parent rest else children_from (first + 1) parent rest)
     go true same nearer further =
         let within : first - 1 < length parents = omega (arith, f, g) in
-        let here : first - 1 + 1 ≡ first = omega (arith, f) in
-        let parent_is : p ≡ parent = eqb-true p parent same in
+        let here : first - 1 + 1 ≡ first = omega (arith, f) in let parent_is : p ≡ parent = eqb-true p parent same in
         let sibling : (link_at (links_of parents) (first - 1)).sibling ≡ first_of (children_from (first + 1) parent rest) =
         ap (λ (l : Link). l.sibling) (link_is parents (first - 1) within) ∙ ap (λ n. sibling_of n parents) here ∙ is first (omega arith)
-        ∙ sibling_here first p rest
-        ∙ ap (λ q. next_below q (first + 1) rest) parent_is
+        ∙ sibling_here first p rest ∙ ap (λ q. next_below q (first + 1) rest) parent_is
         ∙ ap (λ (b : Bool). if b then 0 else first_of (children_from (first + 1) parent rest)) e in
-        walked_one most (links_of parents) first f
-        ∙ ap (λ n. first ∷ walked most (links_of parents) n) sibling
+        walked_one most (links_of parents) first f ∙ ap (λ n. first ∷ walked most (links_of parents) n) sibling
         ∙ ap (λ ns. first ∷ ns) nearer
     go false other nearer further = further
 
@@ -77,16 +73,15 @@ walk_children parents number h = ap (λ (l : Link). walked (length parents) (lin
 
 pub children_rise : (first parent : ℕ) (parents : List ℕ) → AreRisingFrom first (children_from first parent parents)
 children_rise first parent [] = tt
-children_rise first parent (p ∷ parents) = go (p == parent) (children_rise (first + 1) parent parents)
-  where
-    weaker : (least : ℕ) (ns : List ℕ) → AreRisingFrom (least + 1) ns → AreRisingFrom least ns
-    weaker least [] h = tt
-    weaker least (n ∷ ns) h = (omega (arith, h.0), h.1)
+children_rise first parent (p ∷ parents) = go (p == parent) (children_rise (first + 1) parent parents) where
+  weaker : (least : ℕ) (ns : List ℕ) → AreRisingFrom (least + 1) ns → AreRisingFrom least ns
+  weaker least [] h = tt
+  weaker least (n ∷ ns) h = (omega (arith, h.0), h.1)
 
-    go : (b : Bool) → AreRisingFrom (first + 1) (children_from (first + 1) parent parents)
-        → AreRisingFrom first (if b then first ∷ children_from (first + 1) parent parents else children_from (first + 1) parent parents)
-    go true h = (omega arith, h)
-    go false h = weaker first (children_from (first + 1) parent parents) h
+  go : (b : Bool) → AreRisingFrom (first + 1) (children_from (first + 1) parent parents)
+      → AreRisingFrom first (if b then first ∷ children_from (first + 1) parent parents else children_from (first + 1) parent parents)
+  go true h = (omega arith, h)
+  go false h = weaker first (children_from (first + 1) parent parents) h
 
 abbrev one_if : Bool → ℕ
 one_if b = if b then 1 else 0
@@ -120,14 +115,13 @@ count_behind number first parent (p ∷ parents) h = go (p == parent) (count_beh
 pub count_once : (number first parent : ℕ) (parents : List ℕ) → number < length parents
     → count_of (first + number) (children_from first parent parents) ≡ one_if (get_or parents number 0 == parent)
 count_once number first parent [] h = absurd (omega (arith, h))
-count_once zero first parent (p ∷ parents) h = go (p == parent) (count_behind (first + 0) (first + 1) parent parents (omega arith))
-  where
-    go : (b : Bool) → count_of (first + 0) (children_from (first + 1) parent parents) ≡ 0
-        → count_of (first + 0) (if b then first ∷ children_from (first + 1) parent parents else children_from (first + 1) parent parents) ≡
-        one_if b
-    go true later =
-        omega (arith, count_cons (first + 0) first (children_from (first + 1) parent parents), this (first + 0) first (omega arith), later)
-    go false later = later
+count_once zero first parent (p ∷ parents) h = go (p == parent) (count_behind (first + 0) (first + 1) parent parents (omega arith)) where
+  go : (b : Bool) → count_of (first + 0) (children_from (first + 1) parent parents) ≡ 0
+      → count_of (first + 0) (if b then first ∷ children_from (first + 1) parent parents else children_from (first + 1) parent parents) ≡
+      one_if b
+  go true later =
+      omega (arith, count_cons (first + 0) first (children_from (first + 1) parent parents), this (first + 0) first (omega arith), later)
+  go false later = later
 count_once (suc number) first parent (p ∷ parents) h =
     let there : first + suc number ≡ first + 1 + number = omega arith in
     go (p == parent) (ap (λ n. count_of n (children_from (first + 1) parent parents)) there ∙ count_once number (first + 1) parent parents
@@ -135,8 +129,7 @@ count_once (suc number) first parent (p ∷ parents) h =
   where
     go : (b : Bool) → count_of (first + suc number) (children_from (first + 1) parent parents) ≡ one_if (get_or parents number 0 == parent)
         → count_of (first + suc number) (if b then first ∷ children_from (first + 1) parent parents else children_from (first + 1) parent
-        parents)
-        ≡ one_if (get_or parents number 0 == parent)
+        parents) ≡ one_if (get_or parents number 0 == parent)
     go true later = omega (
       arith,
       count_cons (first + suc number) first (children_from (first + 1) parent parents),

@@ -47,11 +47,10 @@ more_size n count h = ap (λ (b : Bool). size (if b then Cell.Byte (64 + n) ∷ 
     (128 + 2 * count % 64) ∷ [])) (lt-leb count 1 h)
 
 size_later : (n count : ℕ) → later_count (size_cells n count) ≡ 0
-size_later n count = go (nat_le count 1)
-  where
-    go : (b : Bool) → later_count (if b then Cell.Byte (64 + n) ∷ [] else Cell.Byte (128 + n) ∷ Cell.Byte (128 + 2 * count % 64) ∷ []) ≡ 0
-    go true = refl
-    go false = refl
+size_later n count = go (nat_le count 1) where
+  go : (b : Bool) → later_count (if b then Cell.Byte (64 + n) ∷ [] else Cell.Byte (128 + n) ∷ Cell.Byte (128 + 2 * count % 64) ∷ []) ≡ 0
+  go true = refl
+  go false = refl
 
 common_few : (count : ℕ) → count ≤ 1 → common_bytes count ≡ 3
 common_few count h = ap (λ (b : Bool). if b then 3 else 2 + 2 * count) (le-leb count 1 h)
@@ -61,23 +60,22 @@ common_more count h = ap (λ (b : Bool). if b then 3 else 2 + 2 * count) (lt-leb
 
 row_by : (n : ℕ) (vs : List Value) → size (size_cells n (length vs) ++ values_cells (shown vs)) ≡ common_bytes (length vs)
 row_by n [] = refl
-row_by n (v ∷ vs) =
-    elim (cases_lt 1 (length (v ∷ vs))) [
-      | inl h ↦ omega (
-        arith,
-        size-append (size_cells n (length (v ∷ vs))) (values_cells (v ∷ vs)),
-        values_size (v ∷ vs),
-        more_size n (length (v ∷ vs)) h,
-        common_more (length (v ∷ vs)) h,
-      )
-      | inr h ↦ omega (
-        arith,
-        size-append (size_cells n (length (v ∷ vs))) (values_cells (v ∷ vs)),
-        values_size (v ∷ vs),
-        few_size n (length (v ∷ vs)) h,
-        common_few (length (v ∷ vs)) h,
-      )
-    ]
+row_by n (v ∷ vs) = elim (cases_lt 1 (length (v ∷ vs))) [
+  | inl h ↦ omega (
+    arith,
+    size-append (size_cells n (length (v ∷ vs))) (values_cells (v ∷ vs)),
+    values_size (v ∷ vs),
+    more_size n (length (v ∷ vs)) h,
+    common_more (length (v ∷ vs)) h,
+  )
+  | inr h ↦ omega (
+    arith,
+    size-append (size_cells n (length (v ∷ vs))) (values_cells (v ∷ vs)),
+    values_size (v ∷ vs),
+    few_size n (length (v ∷ vs)) h,
+    common_few (length (v ∷ vs)) h,
+  )
+]
 
 abbrev pub row_size : Property → ℕ
 row_size p = common_bytes (length p.values)
@@ -109,11 +107,10 @@ class_size (c ∷ cs) =
     sum_by-cons row_size row [] ∙ omega (arith, count, one (length (c ∷ cs)) (omega arith), list)
   where
     one : (n : ℕ) → 1 ≤ n → common_bytes n ≡ (if n == 1 then 3 else 2 + 2 * n)
-    one n h =
-        elim (cases_eq n 1) [
-          | inl e ↦ common_few n (omega (arith, e)) ∙ sym (ap (λ (b : Bool). if b then 3 else 2 + 2 * n) (eq-eqb n 1 e))
-          | inr e ↦ common_more n (omega (arith, e, h)) ∙ sym (ap (λ (b : Bool). if b then 3 else 2 + 2 * n) (ne_eqb n 1 e))
-        ]
+    one n h = elim (cases_eq n 1) [
+      | inl e ↦ common_few n (omega (arith, e)) ∙ sym (ap (λ (b : Bool). if b then 3 else 2 + 2 * n) (eq-eqb n 1 e))
+      | inr e ↦ common_more n (omega (arith, e, h)) ∙ sym (ap (λ (b : Bool). if b then 3 else 2 + 2 * n) (ne_eqb n 1 e))
+    ]
 
 pub known_classes : (cs : List ℕ) → values_later (class_values cs) ≡ 0
 known_classes [] = refl
@@ -129,11 +126,10 @@ address_row part = record { number = 3; is_additive = false; values = Value.Late
 
 address_sum : (f : Property → ℕ) (n part : ℕ) (ps : List Property) → f (address_row part) ≡ n
     → sum_by f (address_rows part ps) ≡ (if has_individual ps then n else 0)
-address_sum f n part ps is = go (has_individual ps)
-  where
-    go : (b : Bool) → sum_by f (if b then address_row part ∷ [] else []) ≡ (if b then n else 0)
-    go true = sum_by-cons f (address_row part) [] ∙ omega (arith, is)
-    go false = refl
+address_sum f n part ps is = go (has_individual ps) where
+  go : (b : Bool) → sum_by f (if b then address_row part ∷ [] else []) ≡ (if b then n else 0)
+  go true = sum_by-cons f (address_row part) [] ∙ omega (arith, is)
+  go false = refl
 
 -- the bytes and later numbers of properties, kind by kind
 abbrev common_of : Property → Size
@@ -176,35 +172,31 @@ abbrev individual_size : Property → ℕ
 individual_size p = individual_bytes (length p.values)
 
 common_kind : (p : Property) → ((kind_part false p).bytes ≡ below 64 row_size p) × ((kind_part false p).later ≡ below 64 row_laters p)
-common_kind p =
-    elim (cases_lt p.number 64) [
-      | inl h ↦ (
-        ap (λ (x : Part). x.bytes) (kind_declared false p h) ∙ ap (λ (s : Size). s.bytes) (size_common p h)
-            ∙ sym (below_in 64 row_size p h),
-        ap (λ (x : Part). x.later) (kind_declared false p h) ∙ ap (λ (s : Size). s.fixups) (size_common p h)
-            ∙ sym (below_in 64 row_laters p h),
-      )
-      | inr h ↦ (
-        ap (λ (x : Part). x.bytes) (kind_individual false p h) ∙ sym (below_out 64 row_size p h),
-        ap (λ (x : Part). x.later) (kind_individual false p h) ∙ sym (below_out 64 row_laters p h),
-      )
-    ]
+common_kind p = elim (cases_lt p.number 64) [
+  | inl h ↦ (
+    ap (λ (x : Part). x.bytes) (kind_declared false p h) ∙ ap (λ (s : Size). s.bytes) (size_common p h) ∙ sym (below_in 64 row_size p h),
+    ap (λ (x : Part). x.later) (kind_declared false p h) ∙ ap (λ (s : Size). s.fixups) (size_common p h) ∙ sym (below_in 64 row_laters p h),
+  )
+  | inr h ↦ (
+    ap (λ (x : Part). x.bytes) (kind_individual false p h) ∙ sym (below_out 64 row_size p h),
+    ap (λ (x : Part). x.later) (kind_individual false p h) ∙ sym (below_out 64 row_laters p h),
+  )
+]
 
 individual_kind : (p : Property) →
     ((kind_part true p).bytes ≡ individual_if individual_size p) × ((kind_part true p).later ≡ individual_if row_laters p)
-individual_kind p =
-    elim (cases_lt p.number 64) [
-      | inl h ↦ (
-        ap (λ (x : Part). x.bytes) (kind_declared true p h) ∙ sym (individual_out individual_size p h),
-        ap (λ (x : Part). x.later) (kind_declared true p h) ∙ sym (individual_out row_laters p h),
-      )
-      | inr h ↦ (
-        ap (λ (x : Part). x.bytes) (kind_individual true p h) ∙ ap (λ (s : Size). s.bytes) (size_individual p h)
-            ∙ sym (individual_in individual_size p h),
-        ap (λ (x : Part). x.later) (kind_individual true p h) ∙ ap (λ (s : Size). s.fixups) (size_individual p h)
-            ∙ sym (individual_in row_laters p h),
-      )
-    ]
+individual_kind p = elim (cases_lt p.number 64) [
+  | inl h ↦ (
+    ap (λ (x : Part). x.bytes) (kind_declared true p h) ∙ sym (individual_out individual_size p h),
+    ap (λ (x : Part). x.later) (kind_declared true p h) ∙ sym (individual_out row_laters p h),
+  )
+  | inr h ↦ (
+    ap (λ (x : Part). x.bytes) (kind_individual true p h) ∙ ap (λ (s : Size). s.bytes) (size_individual p h)
+        ∙ sym (individual_in individual_size p h),
+    ap (λ (x : Part). x.later) (kind_individual true p h) ∙ ap (λ (s : Size). s.fixups) (size_individual p h)
+        ∙ sym (individual_in row_laters p h),
+  )
+]
 
 pub same_sums : (f g : Property → ℕ) (ps : List Property) → ((p : Property) → f p ≡ g p) → sum_by f ps ≡ sum_by g ps
 same_sums f g [] same = refl
@@ -231,8 +223,7 @@ object_rows : (part : ℕ) (o : Object) → AreNew [] o.properties → AreFree o
     (parts_of false o.properties).later)
 unfolding all_falling
 object_rows part o new free =
-    let ps = o.properties in
-    let rows = rows_by Owner.Object part o in
+    let ps = o.properties in let rows = rows_by Owner.Object part o in
     let bytes = same_sums (λ p. (kind_part false p).bytes) (below 64 row_size) ps (λ p. (common_kind p).0) in
     let laters = same_sums (λ p. (kind_part false p).later) (below 64 row_laters) ps (λ p. (common_kind p).1) in (
       rows_size (falling 64 rows) ∙ sum_rows row_size 64 part o (omega arith) new free
@@ -257,12 +248,10 @@ measured_by Owner.Object part o new free =
     let parts = table_parts part o (rows_cells (all_falling (rows_by Owner.Object part o))) in
     (omega (arith, rows.0, parts.0), omega (arith, rows.1, parts.1))
 measured_by Owner.Class part o new free =
-    let rows = bare_rows part o in
-    let parts = table_parts part o (rows_cells (all_falling [])) in
+    let rows = bare_rows part o in let parts = table_parts part o (rows_cells (all_falling [])) in
     (omega (arith, rows.0, parts.0), omega (arith, rows.1, parts.1))
 measured_by Owner.Nothing part o new free =
-    let rows = bare_rows part o in
-    let parts = table_parts part o (rows_cells (all_falling [])) in
+    let rows = bare_rows part o in let parts = table_parts part o (rows_cells (all_falling [])) in
     (omega (arith, rows.0, parts.0), omega (arith, rows.1, parts.1))
 
 pub table_measured : (part : ℕ) (o : Object) → AreNew [] o.properties → AreFree o.properties
@@ -278,17 +267,15 @@ individual_more count h = ap (λ (b : Bool). if b then 5 else 3 + 2 * count) (lt
 
 shown_bytes : (vs : List Value) → 3 + 2 * length (shown vs) ≡ individual_bytes (length vs)
 shown_bytes [] = refl
-shown_bytes (v ∷ vs) =
-    elim (cases_lt 1 (length (v ∷ vs))) [
-      | inl h ↦ sym (individual_more (length (v ∷ vs)) h)
-      | inr h ↦ omega (arith, individual_few (length (v ∷ vs)) h, h)
-    ]
+shown_bytes (v ∷ vs) = elim (cases_lt 1 (length (v ∷ vs))) [
+  | inl h ↦ sym (individual_more (length (v ∷ vs)) h)
+  | inr h ↦ omega (arith, individual_few (length (v ∷ vs)) h, h)
+]
 
 individual_row : (p : Property) →
     (size (individual_row_cells p) ≡ individual_size p) × (later_count (individual_row_cells p) ≡ row_laters p)
 individual_row p =
-    let number = word_cells (p.number % 65536) in
-    let count = Cell.Byte (2 * length (shown p.values) % 256) ∷ [] in
+    let number = word_cells (p.number % 65536) in let count = Cell.Byte (2 * length (shown p.values) % 256) ∷ [] in
     let values = values_cells (shown p.values) in (
       omega (arith, size-append (number ++ count) values, size-append number count, values_size (shown p.values), shown_bytes p.values),
       omega (arith, later_count-append (number ++ count) values, later_count-append number count, values_laters (shown p.values), shown_later p.values),
@@ -298,8 +285,7 @@ individual_rows : (ps : List Property) → (size (individual_rows_cells ps) ≡ 
     (later_count (individual_rows_cells ps) ≡ sum_by (individual_if row_laters) ps)
 individual_rows [] = (refl, refl)
 individual_rows (p ∷ ps) =
-    let here = one (is_individual p) in
-    let later = individual_rows ps in
+    let here = one (is_individual p) in let later = individual_rows ps in
     let cells = if is_individual p then individual_row_cells p else [] in (
       omega (arith, size-append cells (individual_rows_cells ps), here.0, later.0, sum_by-cons (individual_if individual_size) p ps),
       omega (arith, later_count-append cells (individual_rows_cells ps), here.1, later.1, sum_by-cons (individual_if row_laters) p ps),

@@ -37,6 +37,5 @@ flag_byte attributes first =
     + weight attributes (first + 4) 8 + weight attributes (first + 5) 4 + weight attributes (first + 6) 2 + weight attributes (first + 7) 1
 
 unfoldable pub attribute_cells : List Bool → List Cell
-attribute_cells attributes =
-    Cell.Byte (flag_byte attributes 0) ∷ Cell.Byte (flag_byte attributes 8) ∷ Cell.Byte (flag_byte attributes 16)
+attribute_cells attributes = Cell.Byte (flag_byte attributes 0) ∷ Cell.Byte (flag_byte attributes 8) ∷ Cell.Byte (flag_byte attributes 16)
     ∷ Cell.Byte (flag_byte attributes 24) ∷ Cell.Byte (flag_byte attributes 32) ∷ Cell.Byte (flag_byte attributes 40) ∷ []

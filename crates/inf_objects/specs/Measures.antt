@@ -18,8 +18,7 @@ kind_part individual p =
 abbrev pub parts_of : Bool → List Property → Part
 parts_of individual properties = record {
   bytes = sum_by (λ p. (kind_part individual p).bytes) properties;
-  later = sum_by
-      (λ p. (kind_part individual p).later) properties;
+  later = sum_by (λ p. (kind_part individual p).later) properties;
 }
 
 -- the part in the property table: the short name, the list of classes, the properties, the address of an individual table

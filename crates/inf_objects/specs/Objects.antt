@@ -26,17 +26,15 @@ joined_classes own number classes = own ++ number ∷ [] ++ new_classes own numb
 
 -- a body behind its header
 abbrev pub begun : Owner → ℕ → ℕ → List ℕ → Body
-begun owner parent arrows name =
-    record {
-      parent = parent;
-      arrows = arrows;
-      name = name;
-      said = nothing_said;
-      above = no_attributes;
-      classes = [];
-      properties = opened
-          owner;
-    }
+begun owner parent arrows name = record {
+  parent = parent;
+  arrows = arrows;
+  name = name;
+  said = nothing_said;
+  above = no_attributes;
+  classes = [];
+  properties = opened owner;
+}
 
 -- the body where none is open
 abbrev pub nothing_read : Body
@@ -48,13 +46,11 @@ with_said number is_given body = record body { said = slice_set body.said number
 
 -- the body with one more class
 abbrev pub with_joined_class : ℕ → Object → Body → Body
-with_joined_class number class body =
-    record body {
-      classes = joined_classes body.classes number class.classes;
-      above = together body.above class.attributes;
-      properties =
-          with_class class.properties body.properties;
-    }
+with_joined_class number class body = record body {
+  classes = joined_classes body.classes number class.classes;
+  above = together body.above class.attributes;
+  properties = with_class class.properties body.properties;
+}
 
 abbrev pub is_lost : Owner → Bool
 is_lost Owner.Object = false

@@ -65,8 +65,7 @@ address_rows part properties =
     if has_individual properties then record {
       number = 3;
       is_additive = false;
-      values = Value.Later
-          (Target.Part AreaName.IndividualTables part) ∷ [];
+      values = Value.Later (Target.Part AreaName.IndividualTables part) ∷ [];
     } ∷ [] else []
 
 -- all properties in the property table of the object with number `part + 1`; a class has none there

@@ -17,7 +17,6 @@ pub(crate) fn join(above: &mut [bool; 48], class: &[bool; 48])
     }
 }
 
-/// Returns whether an object has an attribute: as its body `said`, or, where it said nothing, as its classes have it (`above`).
 fn said_or(said: Option<bool>, above: bool) -> bool
     ensures { result ≡ said_or said above }
 {

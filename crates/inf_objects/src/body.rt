@@ -28,7 +28,6 @@ pub struct Body {
     pub properties: OpenProperties,
 }
 
-/// Returns the number of bytes that a list of `count` classes takes in a property table.
 pub(crate) fn list_bytes(count: usize) -> usize
     requires { count ≤ 32 }
     ensures value { result ≡ list_bytes count }
@@ -41,8 +40,6 @@ pub(crate) fn list_bytes(count: usize) -> usize
     }
 }
 
-/// Returns the number of bytes that an `owner` takes beside its properties, where its short name has `name` bytes and it has
-/// `classes` classes.
 fn head_bytes(owner: Owner, name: usize, classes: usize) -> usize
     requires name { name < 2 ^ 63 }
     requires classes { classes ≤ 32 }

@@ -44,8 +44,6 @@ impl Part {
     }
 }
 
-/// Returns the part that `property` needs where its kind is asked for (individual, or else declared), and no part where it is of
-/// the other kind.
 fn kind_part(property: &Property, individual: bool) -> Part
     requires { length property.now.values ≤ 32 }
     ensures { result ≡ kind_part individual property.now }

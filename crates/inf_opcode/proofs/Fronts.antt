@@ -23,8 +23,7 @@ pub long-within : (operands : List Operand) (i : ℕ) (d : Operand) → i < leng
     → length (long_bytes (flat_map operand_cells (take i operands))) + length (long_bytes (operand_cells (get_or operands i d))) ≤ length
     (long_bytes (flat_map operand_cells operands))
 long-within operands i d within =
-    let before = flat_map operand_cells (take i operands) in
-    let here = operand_cells (get_or operands i d) in
+    let before = flat_map operand_cells (take i operands) in let here = operand_cells (get_or operands i d) in
     let rest = flat_map operand_cells (drop (i + 1) operands) in
     let all : flat_map operand_cells operands ≡ (before ++ here) ++ rest =
     sym (ap (flat_map operand_cells) (take-append-drop (i + 1) operands))
@@ -62,8 +61,7 @@ kept-front start head operands store branch =
     let front = plain head ++ operands in
     let inner : kept_from start (front ++ store_cells store) ≡ kept_from (start + length head) operands =
     kept-append start front (store_cells store)
-    ∙ ap (λ k. kept_from start front ++ k) (kept-store (start + length (long_bytes front)) store)
-    ∙ append-nil (kept_from start front)
+    ∙ ap (λ k. kept_from start front ++ k) (kept-store (start + length (long_bytes front)) store) ∙ append-nil (kept_from start front)
     ∙ kept-append start (plain head) operands
     ∙ ap (λ k. k ++ kept_from (start + length (long_bytes (plain head))) operands) (kept-plain start head)
     ∙ ap (λ bytes. kept_from (start + length bytes) operands) (long-plain head) in

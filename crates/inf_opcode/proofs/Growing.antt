@@ -38,11 +38,10 @@ kept-plain place (byte ∷ bytes) = kept-plain (place + 1) bytes
 -- Plain bytes grow what was written, and so does one special part.
 pub grew_plain : (bytes added new_bytes : List ℕ) (kept : List Kept) → new_bytes ≡ bytes ++ added →
     Grew bytes kept (plain added) new_bytes kept
-grew_plain bytes added new_bytes kept e =
-    record {
-      bytes = e ∙ ap (λ xs. bytes ++ xs) (sym (long-plain added));
-      kept = sym (append-nil kept) ∙ ap (λ ks. kept ++ ks) (sym (kept-plain (length bytes) added));
-    }
+grew_plain bytes added new_bytes kept e = record {
+  bytes = e ∙ ap (λ xs. bytes ++ xs) (sym (long-plain added));
+  kept = sym (append-nil kept) ∙ ap (λ ks. kept ++ ks) (sym (kept-plain (length bytes) added));
+}
 
 pub grew_special : (bytes new_bytes : List ℕ) (kept new_kept : List Kept) (what : Special) → new_bytes ≡ bytes ++ special_bytes what →
     new_kept ≡ kept ++ record { place = length bytes; what = what } ∷ [] → Grew bytes kept (Of what ∷ []) new_bytes new_kept

@@ -10,12 +10,11 @@ use Rattle.inf_opcode.specs.{Slots.letter, Slots.slot, declared.opcodes.Opcode.O
 -- Lemmas about the slot of a name in any case
 
 same_letter : (byte : ℕ) → letter (to_ascii_lowercase byte) ≡ letter byte
-same_letter byte = by_tests _ _
-  where
-    by_tests : (b c : Bool) → letter (cond b byte (cond c (byte + 32) byte)) ≡ letter byte
-    by_tests true c = refl
-    by_tests false true = omega arith
-    by_tests false false = refl
+same_letter byte = by_tests _ _ where
+  by_tests : (b c : Bool) → letter (cond b byte (cond c (byte + 32) byte)) ≡ letter byte
+  by_tests true c = refl
+  by_tests false true = omega arith
+  by_tests false false = refl
 
 lower_at : (s : List ℕ) (n : ℕ) → letter (get_or (map to_ascii_lowercase s) n 0) ≡ letter (get_or s n 0)
 lower_at s n = ap letter (get_or-map to_ascii_lowercase s n 0) ∙ same_letter (get_or s n 0)

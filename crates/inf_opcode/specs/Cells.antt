@@ -60,6 +60,5 @@ kept_from place ((Of what) ∷ cells) = record { place = place; what = what } �
 -- Cells that bytes from a place on and the special parts kept of them stand for.
 abbrev pub cells_of : ℕ → List Kept → List ℕ → List Cell
 cells_of place [] bytes = plain bytes
-cells_of place (kept ∷ others) bytes =
-    plain (take (kept.place - place) bytes)
+cells_of place (kept ∷ others) bytes = plain (take (kept.place - place) bytes)
     ++ Of kept.what ∷ cells_of (kept.place + special_size kept.what) others (drop (kept.place + special_size kept.what - place) bytes)

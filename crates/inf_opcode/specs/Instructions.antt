@@ -52,8 +52,7 @@ types_byte operands k =
 
 -- one such byte, or two where there may be more than four operands (section 4.4.3.1)
 abbrev pub types_bytes : ℕ → List Operand → List ℕ
-types_bytes most operands =
-    if nat_lt 4 most then types_byte operands 0 ∷ types_byte operands 4 ∷ [] else types_byte operands 0 ∷ []
+types_bytes most operands = if nat_lt 4 most then types_byte operands 0 ∷ types_byte operands 4 ∷ [] else types_byte operands 0 ∷ []
 
 -- Tells whether the long form can express the operands: two, of one byte each (section 4.4.2).
 abbrev pub is_long : List Operand → Bool

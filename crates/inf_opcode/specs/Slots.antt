@@ -8,8 +8,7 @@ letter byte = byte % 32
 
 -- Slot of a name, by its length and four of its letters: the same in any case, and another one for each opcode.
 abbrev pub slot : List ℕ → ℕ
-slot name =
-    (letter (get_or name 0 0) + 35 * letter (get_or name (length name - 2) 0) + 427 * letter (get_or name (length name - 1) 0)
+slot name = (letter (get_or name 0 0) + 35 * letter (get_or name (length name - 2) 0) + 427 * letter (get_or name (length name - 1) 0)
     + 608 * letter (get_or name (length name / 2) 0) + 789 * (length name % 32)) % 1024
 
 -- For each slot the place among the opcodes of the one whose name has it; 98, behind all of them, where no name has it.

@@ -11,7 +11,7 @@ pub const MOST_OPERANDS: usize = 8;
 
 /// A place of a routine, by a number that whoever writes the routine chooses. The numbers should be
 /// small: closing the routine takes memory for the greatest of those that are marked.
-#[derive(Clone, Copy, PartialEq, Eq)]
+#[derive(Clone, Copy, Debug, PartialEq, Eq)]
 pub struct Label {
     pub number: u32,
 }

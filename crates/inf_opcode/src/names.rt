@@ -120,7 +120,6 @@ fn opcode_at(place: u8) -> Option<Opcode>
     all().get(place as usize).copied()
 }
 
-/// Returns `opcode`, if there is one and it has `name`, in any case.
 fn if_named(name: &str, opcode: Option<Opcode>) -> Option<Opcode>
     ensures { result ≡ if_named name.now opcode }
 {

@@ -4,7 +4,7 @@ ghost use Rattle.inf_opcode.specs.Opcodes.{row_of, is_encodable, plain_row, nami
 ghost use Rattle.inf_opcode.specs.Opcodes.{last};
 
 /// Class of an opcode by its count of operands; opcodes are numbered within their class (Z-Machine Standard 1.1, section 4.3).
-#[derive(Clone, Copy)]
+#[derive(Clone, Copy, Debug)]
 pub enum OperandCount {
     Zero,
     One,

@@ -18,27 +18,25 @@ use Rattle.inf_unit.specs.{Tokens.SourceToken, Units.bytes_at}
 -- the place of the local that has a number
 pub found : (name : List ℕ) (ls : List CodeLocal) (n : ℕ) → Some n ≡ local_number name (map local ls)
     → (n ≡ 1 + position_or_len (has name) ls) × (position_or_len (has name) ls < length ls)
-found name ls n e = go (ltb (position_or_len (has name) ls) (length ls)) refl
-  where
-    go : (t : Bool) → ltb (position_or_len (has name) ls) (length ls) ≡ t
-        → (n ≡ 1 + position_or_len (has name) ls) × (position_or_len (has name) ls < length ls)
-    go true is =
-        let lt : position_or_len (has name) ls < length ls = grind (arith, nat_tests) in
-        let same : Some n ≡ Some (1 + position_or_len (has name) ls) = e ∙ number_from-found 1 name ls lt in (cc, lt)
-    go false is =
-        let le : length ls ≤ position_or_len (has name) ls = grind (arith, nat_tests) in
-        let none : Some n ≡ None = e ∙ number_from-absent 1 name ls le in absurd (cc none)
+found name ls n e = go (ltb (position_or_len (has name) ls) (length ls)) refl where
+  go : (t : Bool) → ltb (position_or_len (has name) ls) (length ls) ≡ t
+      → (n ≡ 1 + position_or_len (has name) ls) × (position_or_len (has name) ls < length ls)
+  go true is =
+      let lt : position_or_len (has name) ls < length ls = grind (arith, nat_tests) in
+      let same : Some n ≡ Some (1 + position_or_len (has name) ls) = e ∙ number_from-found 1 name ls lt in (cc, lt)
+  go false is =
+      let le : length ls ≤ position_or_len (has name) ls = grind (arith, nat_tests) in
+      let none : Some n ≡ None = e ∙ number_from-absent 1 name ls le in absurd (cc none)
 
 -- a name of no local names none
 unnamed_from : (n : ℕ) (name : List ℕ) (locals : List Local) → None ≡ number_from n name locals → with_named name locals ≡ locals
 unnamed_from n name [] e = refl
-unnamed_from n name (l ∷ locals) e = go (str_eq_ignore_ascii_case l.name name) e (unnamed_from (n + 1) name locals)
-  where
-    go : (t : Bool) → None ≡ cond t (Some n) (number_from (n + 1) name locals) →
-        (None ≡ number_from (n + 1) name locals → with_named name locals ≡ locals) →
-        cond t (record { name = l.name; place = l.place; is_named = true } ∷ locals) (l ∷ with_named name locals) ≡ l ∷ locals
-    go true e later = absurd (cc e)
-    go false e later = ap (λ (ls : List Local). l ∷ ls) (later e)
+unnamed_from n name (l ∷ locals) e = go (str_eq_ignore_ascii_case l.name name) e (unnamed_from (n + 1) name locals) where
+  go : (t : Bool) → None ≡ cond t (Some n) (number_from (n + 1) name locals) →
+      (None ≡ number_from (n + 1) name locals → with_named name locals ≡ locals) →
+      cond t (record { name = l.name; place = l.place; is_named = true } ∷ locals) (l ∷ with_named name locals) ≡ l ∷ locals
+  go true e later = absurd (cc e)
+  go false e later = ap (λ (ls : List Local). l ∷ ls) (later e)
 
 pub unnamed : (name : List ℕ) (locals : List Local) → None ≡ local_number name locals → with_named name locals ≡ locals
 unnamed name locals e = unnamed_from 1 name locals e

@@ -164,8 +164,7 @@ settled_alike limits set locals others tokens (l ∷ leaves) s alike =
     ∙ settled_alike limits set locals others tokens leaves (with_settled (settled_leaf limits set others tokens l s.out) s.operands) alike
 
 pub settled_named : (limits : Limits) (set : CharSet) (locals : List Local) (tokens : List SourceToken) (leaves : List Leaf)
-    (items : List Item) (s : Settled)
-    → settled limits set (stores_named tokens items (leaves_named tokens leaves locals)) tokens leaves s
+    (items : List Item) (s : Settled) → settled limits set (stores_named tokens items (leaves_named tokens leaves locals)) tokens leaves s
     ≡ settled limits set locals tokens leaves s
 settled_named limits set locals tokens leaves items s =
     settled_alike limits set (stores_named tokens items (leaves_named tokens leaves locals)) locals tokens leaves s (record {

@@ -84,8 +84,7 @@ word_operand word = Operand.Later (Target.Word word.text)
 
 -- The constant of the story as a whole that a name behind a sign asks for. Designer's Manual, fourth edition, section 39.
 abbrev pub system_constant : List ℕ → Option SystemConstant
-system_constant name =
-    if str_eq_ignore_ascii_case name (codes "grammar_table") then Some SystemConstant.GrammarTable else
+system_constant name = if str_eq_ignore_ascii_case name (codes "grammar_table") then Some SystemConstant.GrammarTable else
     if str_eq_ignore_ascii_case name (codes "actions_table") then Some SystemConstant.ActionsTable else
     if str_eq_ignore_ascii_case name (codes "preactions_table") then Some SystemConstant.PreactionsTable else
     if str_eq_ignore_ascii_case name (codes "dictionary_table") then Some SystemConstant.DictionaryTable else

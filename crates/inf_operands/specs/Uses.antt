@@ -17,8 +17,7 @@ is_new count op = false
 
 -- Tells that the use of a leaf changes nothing and gives an operand, if looking the leaf up gives this operand.
 abbrev pub LeafStays : Out → List SourceToken → Leaf → Operand → Type 0
-LeafStays o tokens l op =
-    (limits : Limits) (set : CharSet) (locals : List Local) → op ≡ looked locals o.names o.code.scale tokens l
+LeafStays o tokens l op = (limits : Limits) (set : CharSet) (locals : List Local) → op ≡ looked locals o.names o.code.scale tokens l
     → settled_leaf limits set locals tokens l o ≡ (o, op)
 
 -- Tells that the use of some leaves changes nothing and gives these operands.

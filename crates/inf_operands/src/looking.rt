@@ -19,7 +19,6 @@ use inf_settings::bounds::{Bounds, Unbounded};
 use inf_unit::unit_tokens::UnitTokens;
 use std::alloc::{AllocError, Global};
 
-/// Returns whether `operand` is a reference to a name that is none of the first `count`.
 fn is_new(count: usize, operand: Operand) -> bool
     ensures { result ≡ is_new count operand }
 {
@@ -114,8 +113,7 @@ pub fn look_all<B: Bounds>(
     operands: &mut Vec<Operand>,
 ) -> Result<bool, AllocError>
     ensures looked { OnOk result (operands.new.items ≡ all_looked (listed locals.now) out.now tokens.now leaves.now) }
-    ensures stay { IfOk result (λ stay. stay ≡ true →
-        LeavesStay (listed locals.now) out.now tokens.now leaves.now operands.new.items) }
+    ensures stay { IfOk result (λ stay. stay ≡ true → LeavesStay (listed locals.now) out.now tokens.now leaves.now operands.new.items) }
 {
     operands.clear();
     let mut stay = true;

@@ -112,8 +112,7 @@ pub fn note_all<B: Bounds>(
     operands: &mut Vec<Operand>,
 ) -> Result<bool, AllocError>
     ensures looked { OnOk result (operands.new.items ≡ all_looked (listed locals.old) out.now tokens.now leaves.now) }
-    ensures stay { IfOk result (λ stay. stay ≡ true →
-        LeavesStay (listed locals.old) out.now tokens.now leaves.now operands.new.items) }
+    ensures stay { IfOk result (λ stay. stay ≡ true → LeavesStay (listed locals.old) out.now tokens.now leaves.now operands.new.items) }
     ensures named { OnOk result (listed locals.new ≡ leaves_named tokens.now leaves.now (listed locals.old)) }
 {
     operands.clear();

@@ -40,7 +40,6 @@ fn function_of(function: NamedFunction) -> Function
     }
 }
 
-/// Returns the operand of a name of this `meaning`, if its value is known, or it is a variable or a function.
 fn standing(meaning: Meaning) -> Option<Operand>
     ensures { result ≡ standing meaning }
 {
@@ -64,7 +63,6 @@ fn standing(meaning: Meaning) -> Option<Operand>
     }
 }
 
-/// Returns a reference by a name's number among the names.
 fn referring(number: Option<usize>) -> Operand
     ensures { result ≡ referring number }
 {
@@ -137,7 +135,6 @@ fn looked_alone<B: Bounds>(locals: &Locals, names: &Symbols<Place, B>, name: &[u
     }
 }
 
-/// Returns the operand of `word`, a word of the dictionary.
 fn word_operand(word: DictionaryWord) -> Operand
     ensures { result ≡ word_operand word }
 {
@@ -188,7 +185,6 @@ pub fn system_operand(name: &[u8], scale: Scale) -> Operand
     }
 }
 
-/// Returns the operand of `leaf`, a leaf of a unit with `tokens`, where its name is only looked up: a text is some string.
 #[inline(always)]
 pub(crate) fn looked<B: Bounds>(
     locals: &Locals,
@@ -218,8 +214,7 @@ fn word_sum(a: usize, b: usize) -> u16
     ((a % 65536 + b % 65536) % 65536) as u16
 }
 
-/// Returns the number of an action that did not appear and is only looked up, behind the new actions of `ahead`, and
-/// adds it to these.
+/// Returns the number of an action that did not appear and is only looked up, behind the new actions of `ahead`, and adds it to these.
 fn new_action<B: Bounds>(
     name: NameToken<'_>,
     out: &Output<B>,
@@ -254,7 +249,6 @@ pub fn looked_action<B: Bounds>(
     }
 }
 
-/// Returns the number of an action, which appears.
 fn settled_action<B: Bounds>(
     name: Option<NameToken<'_>>,
     out: &mut Output<B>,
@@ -284,8 +278,6 @@ pub fn looked_leaf<B: Bounds>(
     }
 }
 
-/// Returns the operand of a name that was used, by `found`, the result of looking for it. The operand is 0 where the
-/// name is one too many.
 fn settled_as(found: Option<(Found<Place>, Option<usize>)>) -> Operand
     ensures { result ≡ settled_as found }
 {
@@ -351,7 +343,6 @@ fn settled_text<B: Bounds>(
     Ok(Operand::Later(target))
 }
 
-/// Uses `word`, a word of the dictionary, and returns its operand.
 fn settled_word<B: Bounds>(word: DictionaryWord, out: &mut Output<B>) -> Result<Operand, AllocError>
     ensures { IfOk result (λ operand. (out.new, operand) ≡ settled_word B.most word out.old) }
 {

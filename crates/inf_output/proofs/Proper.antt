@@ -22,40 +22,37 @@ no_offset (Simple.Later target ∷ operands) = no_offset operands
 proper : (opcode : Opcode) (operands : List Simple) (store : Option ℕ) (branch : Option Branch) →
     Takes opcode (length operands) (is_some store) (is_some branch)
     → IsProper (record { opcode = opcode; operands = map written operands; store = store; branch = branch; text = [] })
-proper opcode operands store branch takes =
-    record {
-      enough = omega (arith, takes.enough, length-map operands written);
-      few = omega (arith, takes.few, length-map operands written);
-      variable = subst (λ b. IsTrue (fits_variable b (map written operands))) (sym takes.variable) refl;
-      jump = subst (λ b. IsTrue (fits_jump b (map written operands))) (sym takes.jump) (no_offset operands);
-      store = takes.stores;
-      branch = takes.branches;
-      text = subst (λ b. IsTrue (fits_text b [])) (sym takes.text) refl;
-    }
+proper opcode operands store branch takes = record {
+  enough = omega (arith, takes.enough, length-map operands written);
+  few = omega (arith, takes.few, length-map operands written);
+  variable = subst (λ b. IsTrue (fits_variable b (map written operands))) (sym takes.variable) refl;
+  jump = subst (λ b. IsTrue (fits_jump b (map written operands))) (sym takes.jump) (no_offset operands);
+  store = takes.stores;
+  branch = takes.branches;
+  text = subst (λ b. IsTrue (fits_text b [])) (sym takes.text) refl;
+}
 
 naming_fits : (b : Bool) (variable : ℕ) (operands : List Operand) → IsTrue (fits_variable b (Operand.Small variable ∷ operands))
 naming_fits true variable operands = refl
 naming_fits false variable operands = refl
 
 proper_naming : (opcode : Opcode) (variable : ℕ) (operands : List Simple) (store : Option ℕ) (branch : Option Branch) →
-    TakesVariable opcode (length operands) (is_some store) (is_some branch)
-    → IsProper (record {
+    TakesVariable opcode (length operands) (is_some store) (is_some branch) → IsProper (record {
       opcode = opcode;
       operands = Operand.Small variable ∷ map written operands;
       store = store;
       branch = branch;
       text = [];
     })
-proper_naming opcode variable operands store branch takes =
-    record {
-      enough = omega (arith, takes.enough, length-map operands written);
-      few = omega (arith, takes.few, length-map operands written);
-      variable = naming_fits (row_of opcode).names_variable variable (map written operands);
-      jump = subst (λ b. IsTrue (fits_jump b (Operand.Small variable ∷ map written operands))) (sym takes.jump) (no_offset operands);
-      store = takes.stores;
-      branch = takes.branches;
-      text = subst (λ b. IsTrue (fits_text b [])) (sym takes.text) refl;
-    }
+proper_naming opcode variable operands store branch takes = record {
+  enough = omega (arith, takes.enough, length-map operands written);
+  few = omega (arith, takes.few, length-map operands written);
+  variable = naming_fits (row_of opcode).names_variable variable (map written operands);
+  jump = subst (λ b. IsTrue (fits_jump b (Operand.Small variable ∷ map written operands))) (sym takes.jump) (no_offset operands);
+  store = takes.stores;
+  branch = takes.branches;
+  text = subst (λ b. IsTrue (fits_text b [])) (sym takes.text) refl;
+}
 
 -- an instruction of operands that were made is proper
 pub is_proper : (opcode : Opcode) (operands : List Simple) (all : List Operand) (store : Option ℕ) (branch : Option Branch) →

@@ -49,8 +49,7 @@ whole limits code = record {
   tables = None;
   code = code_left limits code;
   strings = false;
-  refs =
-      references_left limits code;
+  refs = references_left limits code;
 }
 
 -- Room of a limit when `more` of it is taken; `None` once the limit is passed.
@@ -103,8 +102,7 @@ or_full None others = others
 or_full (Some limit) others = Some limit
 
 abbrev pub full_past : Past → Option Setting
-full_past past =
-    if past.symbols then Some Setting.Symbols else
+full_past past = if past.symbols then Some Setting.Symbols else
     full_of past.labels Setting.Labels (or_full past.tables (full_of past.code Setting.Code (
     if past.strings then Some Setting.Strings else full_of past.refs Setting.References None)))
 
@@ -255,8 +253,7 @@ with_low_text limits text o = with_low_text_by limits (low_fits limits text o.ta
 abbrev pub with_dictionary : Text → WordUse → Bool → AllTables → AllTables
 with_dictionary text how is_plural tables = record tables { dictionary = with_use text how is_plural tables.dictionary }
 
--- A word is used. Where it would be one too many it is not added, and the limit is passed; nor is it added where it is one of
--- another verb.
+-- A word is used. Where it would be one too many it is not added, and the limit is passed; nor is it added where it is one of another verb.
 abbrev pub with_word_by : Limits → Option WordFault → Text → WordUse → Bool → Code
 with_word_by limits None text how is_plural o = record o { tables = with_dictionary text how is_plural o.tables }
 with_word_by limits (Some WordFault.Full) text how is_plural o = passed_table limits Setting.DictionaryEntries o
@@ -320,38 +317,35 @@ with_label body o = body (next_label o) (record o { next = behind o.next })
 
 -- An instruction of simple operands, and one whose first operand names a variable.
 unfoldable pub instruction : Limits → Opcode → List Simple → Option ℕ → Option Branch → Code
-instruction limits opcode operands store branch o =
-    laid limits (Item.Instruction (record {
-      opcode = opcode;
-      operands = map written operands;
-      store = store;
-      branch = branch;
-      text = [];
-    })) o
+instruction limits opcode operands store branch o = laid limits (Item.Instruction (record {
+  opcode = opcode;
+  operands = map written operands;
+  store = store;
+  branch = branch;
+  text = [];
+})) o
 
 unfoldable pub naming : Limits → Opcode → ℕ → List Simple → Option ℕ → Option Branch → Code
-naming limits opcode variable operands store branch o =
-    laid limits (Item.Instruction (record {
-      opcode = opcode;
-      operands = Operand.Small variable ∷ map written operands;
-      store = store;
-      branch = branch;
-      text = [];
-    })) o
+naming limits opcode variable operands store branch o = laid limits (Item.Instruction (record {
+  opcode = opcode;
+  operands = Operand.Small variable ∷ map written operands;
+  store = store;
+  branch = branch;
+  text = [];
+})) o
 
 -- Place of a label, a jump to it, and a branch to it that is taken where the test is `sense`.
 unfoldable pub marked : Limits → Label → Code
 marked limits label o = laid limits (Item.Mark label) o
 
 unfoldable pub jumped : Limits → Label → Code
-jumped limits label o =
-    laid limits (Item.Instruction (record {
-      opcode = Opcode.Jump;
-      operands = Operand.Offset label ∷ [];
-      store = None;
-      branch = None;
-      text = [];
-    })) o
+jumped limits label o = laid limits (Item.Instruction (record {
+  opcode = Opcode.Jump;
+  operands = Operand.Offset label ∷ [];
+  store = None;
+  branch = None;
+  text = [];
+})) o
 
 abbrev pub to : Bool → Label → Option Branch
 to sense label = Some (record { sense = sense; target = Destination.To label })

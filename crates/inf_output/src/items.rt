@@ -65,8 +65,7 @@ impl Model for Items {
     ghost view = { λ i. i.list.items };
 }
 
-/// Returns the operands of `instruction`: no more than its opcode takes, and the instruction set has no opcode that takes more than
-/// eight.
+/// Returns the operands of `instruction`: no more than its opcode takes, and the instruction set has no opcode that takes more than eight.
 pub(crate) fn proper_operands<'a>(instruction: &Instruction<'a>) -> &'a [Operand]
     requires { IsProper (parts_of instruction.now) }
     ensures value { result.now ≡ (parts_of instruction.now).operands }

@@ -7,7 +7,7 @@ use inf_area::Target;
 use inf_opcode::{MOST_OPERANDS, Operand};
 
 /// A constant or a variable.
-#[derive(Clone, Copy)]
+#[derive(Clone, Copy, Debug, PartialEq, Eq)]
 pub enum Simple {
     Known(u16),
     /// A variable by its number (Z-Machine Standard 1.1, section 4.2.2).

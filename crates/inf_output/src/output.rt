@@ -162,19 +162,18 @@ impl<B: Bounds> Output<B> {
         seen: Symbols<Place, Unbounded>,
         first: Place,
     ) -> Output<B>
-        ensures { result
-            ≡ record {
-              code = code;
-              strings = strings;
-              tables = tables;
-              names = names;
-              texts = texts;
-              seen = seen;
-              first = first;
-              next = 0;
-              past = None;
-              kept = None;
-            } }
+        ensures { result ≡ record {
+          code = code;
+          strings = strings;
+          tables = tables;
+          names = names;
+          texts = texts;
+          seen = seen;
+          first = first;
+          next = 0;
+          past = None;
+          kept = None;
+        } }
     {
         Output {
             code,
@@ -269,9 +268,8 @@ impl<B: Bounds> Output<B> {
         }
     }
 
-    /// Closes the open routine, if there is one, as one of `kind`. Returns the fault of the routine, if it has one: then it is
-    /// given up, and where the fault is a limit, that is passed. The limit of labels is passed, too, where the routine had too
-    /// many.
+    /// Closes the open routine, if there is one, as one of `kind`. Returns the fault of the routine, if it has one: then it is given up,
+    /// and where the fault is a limit, that is passed. The limit of labels is passed, too, where the routine had too many.
     pub fn close(&mut self, kind: RoutineKind) -> Result<Option<CloseFault>, AllocError>
         ensures value { OnOk result (self.new ≡ closed B.most kind self.old) }
         ensures fault { IfOk result (λ fault. fault ≡ fault_closed B.most kind self.old.code) }

@@ -26,7 +26,6 @@ pub struct Past {
     pub refs: Option<usize>,
 }
 
-/// Takes `more` from the room `rest` of a limit; returns `None` once the limit is passed.
 fn less(rest: Option<usize>, more: usize) -> Option<usize>
     ensures { result ≡ less rest more }
 {
@@ -53,7 +52,6 @@ fn or_full(passed: Option<Setting>, others: Option<Setting>) -> Option<Setting>
     }
 }
 
-/// Returns the first of two limits of tables, in the order of the settings: of `limit` and of the one passed so far, if there is one.
 fn first_table(passed: Option<Setting>, limit: Setting) -> Setting
     ensures { result ≡ first_table passed limit }
 {
@@ -65,7 +63,6 @@ fn first_table(passed: Option<Setting>, limit: Setting) -> Setting
 }
 
 impl Past {
-    /// Returns the room left beside `code`.
     pub(crate) fn whole<B: Bounds>(code: &Code<B>) -> Past
         ensures { result ≡ whole B.most code.now }
     {
@@ -128,7 +125,6 @@ impl Past {
         }
     }
 
-    /// Takes `references` references of tables from the room left.
     pub(crate) fn counted(self, references: usize) -> Past
         ensures { result ≡ counted references self }
     {
@@ -138,7 +134,6 @@ impl Past {
         }
     }
 
-    /// Marks `limit`, the limit of a table, as passed.
     pub(crate) fn table_passed(self, limit: Setting) -> Past
         ensures { result ≡ table_passed limit self }
     {

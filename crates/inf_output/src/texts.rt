@@ -7,9 +7,8 @@ use inf_text::{AbbrevFault, Abbreviations, Text, pack};
 use std::alloc::{AllocError, Global};
 use std::marker::Model;
 
-/// Packing of the texts of a story: the abbreviations that its source declares, and whether texts are packed with them (Z-Machine
-/// Standard 1.1, section 3.3). An abbreviation is declared in front of each text that is packed (Designer's Manual, fourth edition,
-/// section 45).
+/// Packing of the texts of a story: the abbreviations that its source declares, and whether texts are packed with them (Z-Machine Standard
+/// 1.1, section 3.3). An abbreviation is declared in front of each text that is packed (Designer's Manual, fourth edition, section 45).
 #[derive(Drop)]
 pub struct Texts {
     abbreviations: Abbreviations,

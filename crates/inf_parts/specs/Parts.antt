@@ -56,24 +56,21 @@ KnowsOpcode p opcode w = is_line p ≡ true → opcode ≡ line_opcode w.unit
 
 -- Site of the statement at hand, beside its trees, and the statement itself.
 abbrev pub site_of : Context → Compilation → Site
-site_of context w =
-    record {
-      set = context.set;
-      tokens = w.unit.tokens;
-      begun = w.unit.begun;
-      items = w.unit.items;
-      locals = w.locals;
-      constructs =
-          w.constructs;
-    }
+site_of context w = record {
+  set = context.set;
+  tokens = w.unit.tokens;
+  begun = w.unit.begun;
+  items = w.unit.items;
+  locals = w.locals;
+  constructs = w.constructs;
+}
 
 abbrev pub statement_at : Compilation → Statement
 statement_at w = statement_in w.unit.tokens w.unit.begun w.unit.items
 
 -- Finding about a unit: the least of those about its expressions and beside them.
 abbrev pub line_finding_of : Limits → Context → Compilation → Option Finding
-line_finding_of limits context w =
-    least_of_both w.unit.passed
+line_finding_of limits context w = least_of_both w.unit.passed
     (site_finding limits (site_of context w) w.output.names (map tree_in (trees_at (order w.unit.begun) Wanted.Operand (operands_of w) w)))
 
 abbrev pub own_finding : Limits → Context → Part → Compilation → Option Finding
@@ -130,8 +127,7 @@ part_carried limits context first p None w =
 
 -- End of a unit without an error, which begins at a place and has these trees.
 abbrev pub part_laid : Limits → Context → Place → Part → List Rooted → Compilation → Compilation
-part_laid limits context first p trees w =
-    unit_ended limits context first (has_last p) nothing_found
+part_laid limits context first p trees w = unit_ended limits context first (has_last p) nothing_found
     (part_effect limits context p trees (record w { output = record w.output { first = first } }))
 
 abbrev pub part_finished : Limits → Context → Place → Part → Compilation → Compilation

@@ -47,7 +47,6 @@ pub enum Part {
 }
 
 impl Part {
-    /// Returns whether the last token of the unit is still to come when it ends.
     fn has_last(self) -> bool
         ensures { result ≡ has_last self }
     {
@@ -66,14 +65,12 @@ impl Part {
         }
     }
 
-    /// Returns whether the unit is a case.
     fn is_case(self) -> bool
         ensures { result ≡ is_case self }
     {
         matches!(self, Part::Case)
     }
 
-    /// Returns whether the unit is an assembly line.
     fn is_line(self) -> bool
         ensures { result ≡ is_line self }
     {

@@ -27,11 +27,10 @@ if-false false x y e = refl
 
 nothing_there : (first n : ℕ) (o : Option ℕ) → at_place_from first n [] o ≡ None
 nothing_there first n None = refl
-nothing_there first n (Some place) = go (nat_lt place first)
-  where
-    go : (b : Bool) → (if b then None else checked n None) ≡ None
-    go true = refl
-    go false = refl
+nothing_there first n (Some place) = go (nat_lt place first) where
+  go : (b : Bool) → (if b then None else checked n None) ≡ None
+  go true = refl
+  go false = refl
 
 -- a property of another number is passed over
 other_further : (first n : ℕ) (p : Property) (ps : List Property) (d : ℕ) → (p.number == n) ≡ false
@@ -48,8 +47,7 @@ other_further first n p ps (suc d) e =
     let back : first + suc d - first ≡ suc d = omega arith in
     let nearer : first + suc d - (first + 1) ≡ d = omega arith in
     if-false (ltb (first + suc d) (first + 1)) None (checked n (slice_get ps (first + suc d - (first + 1))))
-    (le-ltb (first + suc d) (first + 1) (omega arith))
-    ∙ ap (λ k. checked n (slice_get ps k)) nearer
+    (le-ltb (first + suc d) (first + 1) (omega arith)) ∙ ap (λ k. checked n (slice_get ps k)) nearer
     ∙ sym (ap (λ k. checked n (slice_get (p ∷ ps) k)) back)
     ∙ sym (if-false (ltb (first + suc d) first) None (checked n (slice_get (p ∷ ps) (first + suc d - first)))
     (le-ltb (first + suc d) first (omega arith)))
@@ -63,14 +61,13 @@ other_before first n place p ps h =
 other_there : (first n : ℕ) (p : Property) (ps : List Property) (o : Option ℕ) → (p.number == n) ≡ false
     → at_place_from (first + 1) n ps o ≡ at_place_from first n (p ∷ ps) o
 other_there first n p ps None e = refl
-other_there first n p ps (Some place) e =
-    elim (cases_lt place first) [
-      | inl h ↦ other_before first n place p ps h
-      | inr h ↦
-          let sum : first + (place - first) ≡ place = omega arith in
-          subst (λ k. at_place_from (first + 1) n ps (Some k) ≡ at_place_from first n (p ∷ ps) (Some k)) sum
-          (other_further first n p ps (place - first) e)
-    ]
+other_there first n p ps (Some place) e = elim (cases_lt place first) [
+  | inl h ↦ other_before first n place p ps h
+  | inr h ↦
+      let sum : first + (place - first) ≡ place = omega arith in
+      subst (λ k. at_place_from (first + 1) n ps (Some k) ≡ at_place_from first n (p ∷ ps) (Some k)) sum
+      (other_further first n p ps (place - first) e)
+]
 
 -- the first property is found where it has the number
 found_here : (first n : ℕ) (p : Property) (ps : List Property) (o : Option ℕ) → (p.number == n) ≡ true → o ≡ Some first
@@ -85,22 +82,20 @@ found_here first n p ps o e is =
 found-at_from : (first : ℕ) (places : List ℕ) (ps : List Property) (n : ℕ) → AreAt first places ps
     → found n ps ≡ at_place_from first n ps (slice_get places n)
 found-at_from first places [] n h = sym (nothing_there first n (slice_get places n))
-found-at_from first places (p ∷ ps) n h = go (p.number == n) refl (found-at_from (first + 1) places ps n h.1)
-  where
-    go : (b : Bool) → (p.number == n) ≡ b → found n ps ≡ at_place_from (first + 1) n ps (slice_get places n)
-        → (if b then Some p else found n ps) ≡ at_place_from first n (p ∷ ps) (slice_get places n)
-    go true e later = found_here first n p ps (slice_get places n) e (ap (slice_get places) (sym (eqb-true p.number n e)) ∙ h.0)
-    go false e later = later ∙ other_there first n p ps (slice_get places n) e
+found-at_from first places (p ∷ ps) n h = go (p.number == n) refl (found-at_from (first + 1) places ps n h.1) where
+  go : (b : Bool) → (p.number == n) ≡ b → found n ps ≡ at_place_from (first + 1) n ps (slice_get places n)
+      → (if b then Some p else found n ps) ≡ at_place_from first n (p ∷ ps) (slice_get places n)
+  go true e later = found_here first n p ps (slice_get places n) e (ap (slice_get places) (sym (eqb-true p.number n e)) ∙ h.0)
+  go false e later = later ∙ other_there first n p ps (slice_get places n) e
 
 pub found-at : (places : List ℕ) (ps : List Property) (n : ℕ) → AreAt 0 places ps → found n ps ≡ at_place n ps (slice_get places n)
-found-at places ps n h = found-at_from 0 places ps n h ∙ go (slice_get places n)
-  where
-    go : (o : Option ℕ) → at_place_from 0 n ps o ≡ at_place n ps o
-    go None = refl
-    go (Some place) =
-        let same : place - 0 ≡ place = omega arith in
-        if-false (ltb place 0) None (checked n (slice_get ps (place - 0))) (le-ltb place 0 (omega arith))
-        ∙ ap (λ k. checked n (slice_get ps k)) same
+found-at places ps n h = found-at_from 0 places ps n h ∙ go (slice_get places n) where
+  go : (o : Option ℕ) → at_place_from 0 n ps o ≡ at_place n ps o
+  go None = refl
+  go (Some place) =
+      let same : place - 0 ≡ place = omega arith in
+      if-false (ltb place 0) None (checked n (slice_get ps (place - 0))) (le-ltb place 0 (omega arith))
+      ∙ ap (λ k. checked n (slice_get ps k)) same
 
 -- a place that is written is read again
 slice_get-set_same : (xs : List ℕ) (n k : ℕ) → n < length xs → slice_get (slice_set xs n k) n ≡ Some k
@@ -117,11 +112,10 @@ slice_get-set_other (x ∷ xs) (suc n) (suc m) k e = slice_get-set_other xs n m 
 
 -- a number that no property has: neither the first one nor one behind it
 pub absent_head : (p : Property) (ps : List Property) (n : ℕ) → has n (p ∷ ps) ≡ false → ((p.number == n) ≡ false) × (has n ps ≡ false)
-absent_head p ps n e = go (p.number == n) e
-  where
-    go : (b : Bool) → is_some (if b then Some p else found n ps) ≡ false → (b ≡ false) × (has n ps ≡ false)
-    go true absent = cc
-    go false absent = (refl, absent)
+absent_head p ps n e = go (p.number == n) e where
+  go : (b : Bool) → is_some (if b then Some p else found n ps) ≡ false → (b ≡ false) × (has n ps ≡ false)
+  go true absent = cc
+  go false absent = (refl, absent)
 
 -- the places of properties are not overwritten by the place of a number that none of them has
 pub AreAt-set : (first : ℕ) (places : List ℕ) (ps : List Property) (n k : ℕ) → AreAt first places ps → has n ps ≡ false
@@ -134,18 +128,15 @@ AreAt-set first places (p ∷ ps) n k h e =
     )
 
 AreAt-last : (first : ℕ) (places : List ℕ) (ps : List Property) (p : Property) → AreAt first places ps →
-    slice_get places p.number ≡ Some (first + length ps)
-    → AreAt first places (ps ++ p ∷ [])
+    slice_get places p.number ≡ Some (first + length ps) → AreAt first places (ps ++ p ∷ [])
 AreAt-last first places [] p h e =
-    let here : first + 0 ≡ first = omega arith in
-    (e ∙ ap (λ k. Some k) here, tt)
+    let here : first + 0 ≡ first = omega arith in (e ∙ ap (λ k. Some k) here, tt)
 AreAt-last first places (q ∷ ps) p h e =
     let there : first + length (q ∷ ps) ≡ first + 1 + length ps = omega arith in
     (h.0, AreAt-last (first + 1) places ps p h.1 (e ∙ ap (λ k. Some k) there))
 
 pub AreAt-push : (places : List ℕ) (ps : List Property) (p : Property) → AreAt 0 places ps → has p.number ps ≡ false →
-    p.number < length places
-    → AreAt 0 (slice_set places p.number (length ps)) (ps ++ p ∷ [])
+    p.number < length places → AreAt 0 (slice_set places p.number (length ps)) (ps ++ p ∷ [])
 AreAt-push places ps p h absent within =
     let here : 0 + length ps ≡ length ps = omega arith in
     AreAt-last 0 (slice_set places p.number (length ps)) ps p (AreAt-set 0 places ps p.number (length ps) h absent)

@@ -19,8 +19,7 @@ pub sized_by : (o o' : Owner) (n : ℕ) (b : Bool) (count later : ℕ) (values a
     → o ≡ o' → count ≡ length own → later ≡ later_count own → values ≡ above
     → joined_size o n b count later values ≡ joined_size o' n b (length own) (later_count own) above
 sized_by o o' n b count later values above own p q r s = ap (λ x. joined_size x n b count later values) p
-    ∙ ap (λ x. joined_size o' n b x later values) q
-    ∙ ap (λ x. joined_size o' n b (length own) x values) r
+    ∙ ap (λ x. joined_size o' n b x later values) q ∙ ap (λ x. joined_size o' n b (length own) x values) r
     ∙ ap (λ x. joined_size o' n b (length own) (later_count own) x) s
 
 pub given_fits : (view s : Open) (size lost gained : Size) (n : ℕ) (b : Bool) (first : Option Value)
@@ -31,16 +30,14 @@ pub given_fits : (view s : Open) (size lost gained : Size) (n : ℕ) (b : Bool) 
 given_fits view s size lost gained n b first is once absent sized was now =
     let new = given_changes s.owner s.own s.above (given_first n b first) (subst (λ (o : Open). AreNew [] o.above) is once) absent in
     alike size (total s.owner (inherited s.own s.above)) lost (size_option s.owner (found n s.above)) gained
-    (size_of s.owner (joined s.above (given_first n b first)))
-    (total s.owner (inherited (s.own ++ given_first n b first ∷ []) s.above))
+    (size_of s.owner (joined s.above (given_first n b first))) (total s.owner (inherited (s.own ++ given_first n b first ∷ []) s.above))
     (sized ∙ ap (λ (o : Open). total o.owner (inherited o.own o.above)) is) was
     (now ∙ sym (size-joined s.owner n b (option_to_list first) (values_in (found n s.above)))) new
 
 -- the change of the size with one value more of the last property
 pub valued_fits : (view s : Open) (front : List Property) (p : Property) (v : Value) (size lost gained : Size)
     → view ≡ s → view.own ≡ front ++ p ∷ [] → size ≡ total view.owner (inherited view.own view.above)
-    → lost ≡ size_of s.owner (joined s.above p)
-    → gained ≡ size_of s.owner (joined s.above (record p { values = p.values ++ v ∷ [] }))
+    → lost ≡ size_of s.owner (joined s.above p) → gained ≡ size_of s.owner (joined s.above (record p { values = p.values ++ v ∷ [] }))
     → Changes size lost gained (total s.owner (inherited (with_last_value v s.own) s.above))
 valued_fits view s front p v size lost gained is last sized was now =
     let q : Property = record p { values = p.values ++ v ∷ [] } in
@@ -50,8 +47,7 @@ valued_fits view s front p v size lost gained is last sized was now =
     let then = ap (λ ps. total s.owner (inherited ps s.above)) (ap (with_last_value v) own ∙ with_last_value-push front p v) in
     subst (Changes size lost gained) (sym then)
     (alike size (total s.owner (inherited (front ++ p ∷ []) s.above)) lost (size_of s.owner (joined s.above p)) gained
-    (size_of s.owner (joined s.above q))
-    (total s.owner (inherited (front ++ q ∷ []) s.above)) old was now new)
+    (size_of s.owner (joined s.above q)) (total s.owner (inherited (front ++ q ∷ []) s.above)) old was now new)
 
 -- the size of a property with the values of classes
 pub sized_as : (o o' : Owner) (p : Property) (values : List Value) (above : List Property) → o ≡ o' → values ≡ values_of p.number above

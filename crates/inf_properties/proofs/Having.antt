@@ -14,12 +14,11 @@ or_found (Some p) other = Some p
 
 pub found-append : (n : ℕ) (xs ys : List Property) → found n (xs ++ ys) ≡ or_found (found n xs) (found n ys)
 found-append n [] ys = refl
-found-append n (x ∷ xs) ys = go (x.number == n) (found-append n xs ys)
-  where
-    go : (b : Bool) → found n (xs ++ ys) ≡ or_found (found n xs) (found n ys)
-        → (if b then Some x else found n (xs ++ ys)) ≡ or_found (if b then Some x else found n xs) (found n ys)
-    go true later = refl
-    go false later = later
+found-append n (x ∷ xs) ys = go (x.number == n) (found-append n xs ys) where
+  go : (b : Bool) → found n (xs ++ ys) ≡ or_found (found n xs) (found n ys)
+      → (if b then Some x else found n (xs ++ ys)) ≡ or_found (if b then Some x else found n xs) (found n ys)
+  go true later = refl
+  go false later = later
 
 abbrev joined_option : List Property → Option Property → Option Property
 joined_option above None = None
@@ -27,39 +26,35 @@ joined_option above (Some p) = Some (joined above p)
 
 found-with_joined : (n : ℕ) (above own : List Property) → found n (with_joined above own) ≡ joined_option above (found n own)
 found-with_joined n above [] = refl
-found-with_joined n above (p ∷ own) = go (p.number == n) (found-with_joined n above own)
-  where
-    go : (b : Bool) → found n (with_joined above own) ≡ joined_option above (found n own)
-        → (if b then Some (joined above p) else found n (with_joined above own)) ≡ joined_option above (if b then Some p else found n own)
-    go true later = refl
-    go false later = later
+found-with_joined n above (p ∷ own) = go (p.number == n) (found-with_joined n above own) where
+  go : (b : Bool) → found n (with_joined above own) ≡ joined_option above (found n own)
+      → (if b then Some (joined above p) else found n (with_joined above own)) ≡ joined_option above (if b then Some p else found n own)
+  go true later = refl
+  go false later = later
 
 found-lacked : (n : ℕ) (own above : List Property) → has n own ≡ false → found n (lacked own above) ≡ found n above
 found-lacked n own [] e = refl
-found-lacked n own (p ∷ above) e = go (p.number == n) (has p.number own) refl refl (found-lacked n own above e)
-  where
-    go : (b a : Bool) → (p.number == n) ≡ b → has p.number own ≡ a → found n (lacked own above) ≡ found n above
-        → found n (if a then lacked own above else p ∷ lacked own above) ≡ (if b then Some p else found n above)
-    go true true same taken later = let no = ap (λ k. has k own) (eqb-true p.number n same) in cc
-    go true false same taken later = ap (λ (c : Bool). if c then Some p else found n (lacked own above)) same
-    go false true other taken later = later
-    go false false other taken later = ap (λ (c : Bool). if c then Some p else found n (lacked own above)) other ∙ later
+found-lacked n own (p ∷ above) e = go (p.number == n) (has p.number own) refl refl (found-lacked n own above e) where
+  go : (b a : Bool) → (p.number == n) ≡ b → has p.number own ≡ a → found n (lacked own above) ≡ found n above
+      → found n (if a then lacked own above else p ∷ lacked own above) ≡ (if b then Some p else found n above)
+  go true true same taken later = let no = ap (λ k. has k own) (eqb-true p.number n same) in cc
+  go true false same taken later = ap (λ (c : Bool). if c then Some p else found n (lacked own above)) same
+  go false true other taken later = later
+  go false false other taken later = ap (λ (c : Bool). if c then Some p else found n (lacked own above)) other ∙ later
 
 pub found-inherited : (own above : List Property) (n : ℕ) → found n (inherited own above) ≡ found_or_above n (found n own) above
 found-inherited own above n = found-append n (with_joined above own) (lacked own above)
-    ∙ ap (λ o. or_found o (found n (lacked own above))) (found-with_joined n above own)
-    ∙ go (found n own) refl
+    ∙ ap (λ o. or_found o (found n (lacked own above))) (found-with_joined n above own) ∙ go (found n own) refl
   where
     go : (o : Option Property) → found n own ≡ o → or_found (joined_option above o) (found n (lacked own above)) ≡ found_or_above n o above
     go None none = found-lacked n own above (ap is_some none)
     go (Some p) some = refl
 
 absent_both : (own above : List Property) (n : ℕ) → has n own ≡ false → has n above ≡ false → has n (inherited own above) ≡ false
-absent_both own above n e h = ap is_some (found-inherited own above n) ∙ go (found n own) e
-  where
-    go : (o : Option Property) → is_some o ≡ false → is_some (found_or_above n o above) ≡ false
-    go None absent = h
-    go (Some p) there = cc
+absent_both own above n e h = ap is_some (found-inherited own above n) ∙ go (found n own) e where
+  go : (o : Option Property) → is_some o ≡ false → is_some (found_or_above n o above) ≡ false
+  go None absent = h
+  go (Some p) there = cc
 
 pub AreFree-inherited : (own above : List Property) → AreFree own → AreFree above → AreFree (inherited own above)
 AreFree-inherited own above h k = record {
@@ -79,18 +74,16 @@ AreFree-push own p h e =
 -- a further value changes no number
 has-valued : (v : Value) (ps : List Property) (n : ℕ) → has n (with_last_value v ps) ≡ has n ps
 has-valued v [] n = refl
-has-valued v (p ∷ []) n = go (p.number == n)
-  where
-    go : (b : Bool) →
-        is_some (if b then Some (record p { values = p.values ++ v ∷ [] }) else found n []) ≡ is_some (if b then Some p else found n [])
-    go true = refl
-    go false = refl
-has-valued v (p ∷ q ∷ ps) n = go (p.number == n) (has-valued v (q ∷ ps) n)
-  where
-    go : (b : Bool) → has n (with_last_value v (q ∷ ps)) ≡ has n (q ∷ ps)
-        → is_some (if b then Some p else found n (with_last_value v (q ∷ ps))) ≡ is_some (if b then Some p else found n (q ∷ ps))
-    go true later = refl
-    go false later = later
+has-valued v (p ∷ []) n = go (p.number == n) where
+  go : (b : Bool) →
+      is_some (if b then Some (record p { values = p.values ++ v ∷ [] }) else found n []) ≡ is_some (if b then Some p else found n [])
+  go true = refl
+  go false = refl
+has-valued v (p ∷ q ∷ ps) n = go (p.number == n) (has-valued v (q ∷ ps) n) where
+  go : (b : Bool) → has n (with_last_value v (q ∷ ps)) ≡ has n (q ∷ ps)
+      → is_some (if b then Some p else found n (with_last_value v (q ∷ ps))) ≡ is_some (if b then Some p else found n (q ∷ ps))
+  go true later = refl
+  go false later = later
 
 pub AreFree-valued : (v : Value) (ps : List Property) → AreFree ps → AreFree (with_last_value v ps)
 AreFree-valued v ps h = record { no_classes = has-valued v ps 2 ∙ h.no_classes; no_address = has-valued v ps 3 ∙ h.no_address }
@@ -98,18 +91,17 @@ AreFree-valued v ps h = record { no_classes = has-valued v ps 2 ∙ h.no_classes
 pub found_one : (n : ℕ) (ps : List Property) (p : Property) → found n ps ≡ Some p → are_short ps ≡ true →
     (p.number ≡ n) × (length p.values ≤ 32)
 found_one n [] p is short = cc
-found_one n (q ∷ ps) p is short = go (q.number == n) refl is (found_one n ps p)
-  where
-    parts : (is_short q ≡ true) × (are_short ps ≡ true)
-    parts = and_parts (is_short q) (are_short ps) short
+found_one n (q ∷ ps) p is short = go (q.number == n) refl is (found_one n ps p) where
+  parts : (is_short q ≡ true) × (are_short ps ≡ true)
+  parts = and_parts (is_short q) (are_short ps) short
 
-    go : (b : Bool) → (q.number == n) ≡ b → (if b then Some q else found n ps) ≡ Some p
-        → (found n ps ≡ Some p → are_short ps ≡ true → (p.number ≡ n) × (length p.values ≤ 32)) → (p.number ≡ n) × (length p.values ≤ 32)
-    go true same is later =
-        let this : q ≡ p = cc in
-        subst (λ (r : Property). (r.number ≡ n) × (length r.values ≤ 32)) this
-        (eqb-true q.number n same, leb-true (length q.values) 32 parts.0)
-    go false other is later = later is parts.1
+  go : (b : Bool) → (q.number == n) ≡ b → (if b then Some q else found n ps) ≡ Some p
+      → (found n ps ≡ Some p → are_short ps ≡ true → (p.number ≡ n) × (length p.values ≤ 32)) → (p.number ≡ n) × (length p.values ≤ 32)
+  go true same is later =
+      let this : q ≡ p = cc in
+      subst (λ (r : Property). (r.number ≡ n) × (length r.values ≤ 32)) this
+      (eqb-true q.number n same, leb-true (length q.values) 32 parts.0)
+  go false other is later = later is parts.1
 
 module _ {A : Type 0} where
   -- what is found, seen through a reference, has the number

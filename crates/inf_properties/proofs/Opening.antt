@@ -36,8 +36,7 @@ pub opens_given : (o : Owner) (own above : List Property) (own_places above_plac
     → IsOpen o (own ++ p ∷ []) above places above_places new
 opens_given o own above own_places above_places places size new p h absent at free short sized small =
     opens o (own ++ p ∷ []) above places above_places new at h.above_at (AreNew-push [] own p h.own_new refl absent) h.above_new
-    (AreFree-push own p h.own_free free) h.above_free
-    (short-given own above p h.short short) sized small
+    (AreFree-push own p h.own_free free) h.above_free (short-given own above p h.short short) sized small
 
 pub opens_covered : (o : Owner) (own above : List Property) (own_places above_places places : List ℕ) (size : Size)
     → IsOpen o own above own_places above_places size → KeepsPlaces above_places places → IsOpen o own above own_places places size
@@ -76,11 +75,10 @@ is_last_short_push above (q ∷ []) p = refl
 is_last_short_push above (q ∷ r ∷ front) p = is_last_short_push above (r ∷ front) p
 
 pub bytes_within : (s : Size) → s.bytes ≤ (with_table s).bytes
-bytes_within s = go (nat_lt 0 s.individuals)
-  where
-    go : (b : Bool) → s.bytes ≤ (if b then record s { bytes = s.bytes + 5; fixups = s.fixups + 1 } else s).bytes
-    go true = omega arith
-    go false = omega arith
+bytes_within s = go (nat_lt 0 s.individuals) where
+  go : (b : Bool) → s.bytes ≤ (if b then record s { bytes = s.bytes + 5; fixups = s.fixups + 1 } else s).bytes
+  go true = omega arith
+  go false = omega arith
 
 -- a further value of the last property changes no number
 AreAt-valued : (k : ℕ) (places : List ℕ) (v : Value) (ps : List Property) → AreAt k places ps → AreAt k places (with_last_value v ps)
@@ -99,25 +97,22 @@ HasLast ps = (ps ≡ []) ⊎ ((front : List Property) × (p : Property) × (ps �
 
 last_of : (ps : List Property) → HasLast ps
 last_of [] = inl refl
-last_of (p ∷ ps) = go (last_of ps)
-  where
-    go : HasLast ps → HasLast (p ∷ ps)
-    go (inl e) = inr ([], p, ap (λ qs. p ∷ qs) e)
-    go (inr h) = inr (p ∷ h.0, h.1, ap (λ qs. p ∷ qs) h.2)
+last_of (p ∷ ps) = go (last_of ps) where
+  go : HasLast ps → HasLast (p ∷ ps)
+  go (inl e) = inr ([], p, ap (λ qs. p ∷ qs) e)
+  go (inr h) = inr (p ∷ h.0, h.1, ap (λ qs. p ∷ qs) h.2)
 
 short-valued : (own above : List Property) (v : Value) → are_short (inherited own above) ≡ true →
-    is_last_short above (with_last_value v own) ≡ true
-    → are_short (inherited (with_last_value v own) above) ≡ true
-short-valued own above v h k = go (last_of own)
-  where
-    go : HasLast own → are_short (inherited (with_last_value v own) above) ≡ true
-    go (inl e) = ap (λ ps. are_short (inherited (with_last_value v ps) above)) e ∙ ap (λ ps. are_short (inherited ps above)) (sym e) ∙ h
-    go (inr l) =
-        let q = with_more v l.1 in
-        let new : with_last_value v own ≡ l.0 ++ q ∷ [] = ap (with_last_value v) l.2 ∙ with_last_value-push l.0 l.1 v in
-        let short : is_short (joined above q) ≡ true = sym (is_last_short_push above l.0 q) ∙ ap (is_last_short above) (sym new) ∙ k in
-        ap (λ ps. are_short (inherited ps above)) new
-        ∙ short-replaced l.0 above l.1 q refl (ap (λ ps. are_short (inherited ps above)) (sym l.2) ∙ h) short
+    is_last_short above (with_last_value v own) ≡ true → are_short (inherited (with_last_value v own) above) ≡ true
+short-valued own above v h k = go (last_of own) where
+  go : HasLast own → are_short (inherited (with_last_value v own) above) ≡ true
+  go (inl e) = ap (λ ps. are_short (inherited (with_last_value v ps) above)) e ∙ ap (λ ps. are_short (inherited ps above)) (sym e) ∙ h
+  go (inr l) =
+      let q = with_more v l.1 in
+      let new : with_last_value v own ≡ l.0 ++ q ∷ [] = ap (with_last_value v) l.2 ∙ with_last_value-push l.0 l.1 v in
+      let short : is_short (joined above q) ≡ true = sym (is_last_short_push above l.0 q) ∙ ap (is_last_short above) (sym new) ∙ k in
+      ap (λ ps. are_short (inherited ps above)) new
+      ∙ short-replaced l.0 above l.1 q refl (ap (λ ps. are_short (inherited ps above)) (sym l.2) ∙ h) short
 
 pub opens_valued : (o : Owner) (own above : List Property) (own_places above_places : List ℕ) (size new : Size) (v : Value)
     → IsOpen o own above own_places above_places size → is_last_short above (with_last_value v own) ≡ true

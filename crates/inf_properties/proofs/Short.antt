@@ -61,8 +61,7 @@ pub short-replaced : (front above : List Property) (p q : Property) → p.number
     are_short (inherited (front ++ p ∷ []) above) ≡ true
     → is_short (joined above q) ≡ true → are_short (inherited (front ++ q ∷ []) above) ≡ true
 short-replaced front above p q e h k =
-    let parts = short_parts (front ++ p ∷ []) above h in
-    let own = joined_front front above p parts.0 in
+    let parts = short_parts (front ++ p ∷ []) above h in let own = joined_front front above p parts.0 in
     let same = lacked-same (front ++ p ∷ []) (front ++ q ∷ []) above (SameNumbers-push front front p q e (λ n. refl)) in
     short_from (front ++ q ∷ []) above (joined_short front above q own.0 k) (ap are_short (sym same) ∙ parts.1)
 
@@ -80,20 +79,18 @@ own_length false own above = omega arith
 pub short_found : (own above : List Property) (n : ℕ) (q : Property) → are_short (lacked own above) ≡ true → has n own ≡ false →
     found n above ≡ Some q → length q.values ≤ 32
 short_found own [] n q h e is = cc
-short_found own (p ∷ above) n q h e is = go (p.number == n) refl is (short_found own above n q (rest (has p.number own) h) e)
-  where
-    rest : (b : Bool) → are_short (if b then lacked own above else p ∷ lacked own above) ≡ true → are_short (lacked own above) ≡ true
-    rest true h = h
-    rest false h = (and_parts (is_short p) (are_short (lacked own above)) h).1
+short_found own (p ∷ above) n q h e is = go (p.number == n) refl is (short_found own above n q (rest (has p.number own) h) e) where
+  rest : (b : Bool) → are_short (if b then lacked own above else p ∷ lacked own above) ≡ true → are_short (lacked own above) ≡ true
+  rest true h = h
+  rest false h = (and_parts (is_short p) (are_short (lacked own above)) h).1
 
-    here : (b : Bool) → b ≡ false → are_short (if b then lacked own above else p ∷ lacked own above) ≡ true → is_short p ≡ true
-    here true isnt h = cc
-    here false isnt h = (and_parts (is_short p) (are_short (lacked own above)) h).0
+  here : (b : Bool) → b ≡ false → are_short (if b then lacked own above else p ∷ lacked own above) ≡ true → is_short p ≡ true
+  here true isnt h = cc
+  here false isnt h = (and_parts (is_short p) (are_short (lacked own above)) h).0
 
-    go : (b : Bool) → (p.number == n) ≡ b → (if b then Some p else found n above) ≡ Some q →
-        (found n above ≡ Some q → length q.values ≤ 32) → length q.values ≤ 32
-    go true same is later =
-        let short = here (has p.number own) (ap (λ k. has k own) (eqb-true p.number n same) ∙ e) h in
-        let this : p ≡ q = cc in
-        subst (λ (r : Property). length r.values ≤ 32) this (leb-true (length p.values) 32 short)
-    go false other is later = later is
+  go : (b : Bool) → (p.number == n) ≡ b → (if b then Some p else found n above) ≡ Some q →
+      (found n above ≡ Some q → length q.values ≤ 32) → length q.values ≤ 32
+  go true same is later =
+      let short = here (has p.number own) (ap (λ k. has k own) (eqb-true p.number n same) ∙ e) h in
+      let this : p ≡ q = cc in subst (λ (r : Property). length r.values ≤ 32) this (leb-true (length p.values) 32 short)
+  go false other is later = later is

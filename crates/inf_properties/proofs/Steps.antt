@@ -14,8 +14,7 @@ left : (ps : List Property) (i : ℕ) (p : Property) → i < length ps → p ≡
 left ps i p h is = drop_more ps i p h ∙ ap (λ q. q ∷ drop (i + 1) ps) (sym is)
 
 pub covered_step : (old new : List ℕ) (ps : List Property) (i : ℕ) (p : Property) → i < length ps → p ≡ get_or ps i p →
-    KeepsPlaces old new → p.number < length new
-    → AreCovered old (take i ps) → AreCovered new (take (i + 1) ps)
+    KeepsPlaces old new → p.number < length new → AreCovered old (take i ps) → AreCovered new (take (i + 1) ps)
 covered_step old new ps i p h is kept within covered = subst (AreCovered new) (sym (taken ps i p h is))
     (AreCovered-push new (take i ps) p (AreCovered-kept old new (take i ps) kept covered) within)
 

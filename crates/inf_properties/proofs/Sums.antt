@@ -51,8 +51,7 @@ sum-lacked_push f own (q ∷ above) before p h e = go (q.number == p.number) ref
         sum-if f (has q.number own) q (lacked own above) ∙ ap (λ (b : Bool). (if b then 0 else f q) + sum_by f (lacked own above)) here in
         let right = sum-if f (has q.number (own ++ p ∷ [])) q (lacked (own ++ p ∷ []) above)
         ∙ ap (λ (b : Bool). (if b then 0 else f q) + sum_by f (lacked (own ++ p ∷ []) above)) there in
-        let equal = ap (sum_by f) (lacked-absent own above p gone) in
-        omega arith
+        let equal = ap (sum_by f) (lacked-absent own above p gone) in omega arith
     go false other later =
         let same : has q.number (own ++ p ∷ []) ≡ has q.number own = has-push_other p own q.number (other_way q.number p.number other) in
         let left = sum-if f (has q.number own) q (lacked own above) in
@@ -79,8 +78,7 @@ pub sum-given : (f : Property → ℕ) (own above : List Property) (p : Property
 sum-given f own above p h e =
     let new = sum-with_joined_push f own above p in
     let old = sum_by-append f (with_joined above own) (lacked own above) in
-    let lost = sum-lacked_push f own above [] p h e in
-    (omega arith, omega arith)
+    let lost = sum-lacked_push f own above [] p h e in (omega arith, omega arith)
 
 -- lists of the same numbers lack the same properties
 pub lacked-same : (own own' above : List Property) → SameNumbers own own' → lacked own above ≡ lacked own' above
@@ -91,11 +89,9 @@ lacked-same own own' (q ∷ above) same = ap (λ (b : Bool). if b then lacked ow
 -- another property in place of the last
 pub sum-replaced : (f : Property → ℕ) (front above : List Property) (p q : Property) → p.number ≡ q.number
     → (sum_by f (inherited (front ++ q ∷ []) above) + f (joined above p) ≡ sum_by f (inherited (front ++ p ∷ []) above) + f
-    (joined above q))
-    × (f (joined above p) ≤ sum_by f (inherited (front ++ p ∷ []) above))
+    (joined above q)) × (f (joined above p) ≤ sum_by f (inherited (front ++ p ∷ []) above))
 sum-replaced f front above p q e =
-    let new = sum-with_joined_push f front above q in
-    let old = sum-with_joined_push f front above p in
+    let new = sum-with_joined_push f front above q in let old = sum-with_joined_push f front above p in
     let same = ap (sum_by f) (lacked-same (front ++ p ∷ []) (front ++ q ∷ []) above (SameNumbers-push front front p q e (λ n. refl))) in
     (omega arith, omega arith)
 
@@ -127,8 +123,7 @@ given_changes o own above p h e =
     let bytes = sum-given (λ p. (size_of o p).bytes) own above p h e in
     let fixups = sum-given (λ p. (size_of o p).fixups) own above p h e in
     let individuals = sum-given (λ p. (size_of o p).individuals) own above p h e in
-    let b = measure_bytes o (found p.number above) in
-    let f = measure_fixups o (found p.number above) in
+    let b = measure_bytes o (found p.number above) in let f = measure_fixups o (found p.number above) in
     let i = measure_individuals o (found p.number above) in
     record {
       bytes = ap (λ n. bytes_of o (inherited (own ++ p ∷ []) above) + n) (sym b) ∙ bytes.0;
@@ -168,8 +163,7 @@ changed_is old lost gained new h =
     let f : old.fixups - lost.fixups + gained.fixups ≡ new.fixups = omega (arith, h.fixups, h.lost_fixups) in
     let i : old.individuals - lost.individuals + gained.individuals ≡ new.individuals = omega (arith, h.individuals, h.lost_individuals) in
     ap (λ n. sized n (old.fixups - lost.fixups + gained.fixups) (old.individuals - lost.individuals + gained.individuals)) b
-    ∙ ap (λ n. sized new.bytes n (old.individuals - lost.individuals + gained.individuals)) f
-    ∙ ap (λ n. sized new.bytes new.fixups n) i
+    ∙ ap (λ n. sized new.bytes n (old.individuals - lost.individuals + gained.individuals)) f ∙ ap (λ n. sized new.bytes new.fixups n) i
 
 -- counts of joined values
 pub later_count-append : (xs ys : List Value) → later_count (xs ++ ys) ≡ later_count xs + later_count ys
@@ -202,17 +196,16 @@ later_within (Value.Later t ∷ values) = omega (arith, later_within values)
 
 few_by : (o : Owner) (n count later : ℕ) → later ≤ count → ((size_by o n count later).fixups ≤ (size_by o n count later).bytes) ×
     ((size_by o n count later).individuals ≤ (size_by o n count later).bytes)
-few_by Owner.Object n count later h = go (nat_lt n 64) (nat_le count 1) refl
-  where
-    go : (b t : Bool) → nat_le count 1 ≡ t →
-        ((if b then sized (if t then 3 else 2 + 2 * count) later 0 else sized (if t then 5 else 3 + 2 * count) later 1).fixups
-        ≤ (if b then sized (if t then 3 else 2 + 2 * count) later 0 else sized (if t then 5 else 3 + 2 * count) later 1).bytes)
-        × ((if b then sized (if t then 3 else 2 + 2 * count) later 0 else sized (if t then 5 else 3 + 2 * count) later 1).individuals
-        ≤ (if b then sized (if t then 3 else 2 + 2 * count) later 0 else sized (if t then 5 else 3 + 2 * count) later 1).bytes)
-    go true true e = let few = leb-true count 1 e in (omega arith, omega arith)
-    go true false e = (omega arith, omega arith)
-    go false true e = let few = leb-true count 1 e in (omega arith, omega arith)
-    go false false e = (omega arith, omega arith)
+few_by Owner.Object n count later h = go (nat_lt n 64) (nat_le count 1) refl where
+  go : (b t : Bool) → nat_le count 1 ≡ t →
+      ((if b then sized (if t then 3 else 2 + 2 * count) later 0 else sized (if t then 5 else 3 + 2 * count) later 1).fixups
+      ≤ (if b then sized (if t then 3 else 2 + 2 * count) later 0 else sized (if t then 5 else 3 + 2 * count) later 1).bytes)
+      × ((if b then sized (if t then 3 else 2 + 2 * count) later 0 else sized (if t then 5 else 3 + 2 * count) later 1).individuals
+      ≤ (if b then sized (if t then 3 else 2 + 2 * count) later 0 else sized (if t then 5 else 3 + 2 * count) later 1).bytes)
+  go true true e = let few = leb-true count 1 e in (omega arith, omega arith)
+  go true false e = (omega arith, omega arith)
+  go false true e = let few = leb-true count 1 e in (omega arith, omega arith)
+  go false false e = (omega arith, omega arith)
 few_by Owner.Class n count later h = (omega arith, omega arith)
 few_by Owner.Nothing n count later h = (omega arith, omega arith)
 

@@ -121,10 +121,8 @@ fn value_sizes(
         IfSome result (λ sizes. sizes.0 ≡ size_by owner property.now.number (length values) (later_count values)) }
     ensures after { let values = joined_values property.now.is_additive (property.now.values ++ value ∷ []) above.now in
         IfSome result (λ sizes. sizes.1 ≡ size_by owner property.now.number (length values) (later_count values)) }
-    ensures short { IsSome result
-        → length (joined_values property.now.is_additive (property.now.values ++ value ∷ []) above.now) ≤ 32 }
-    ensures long { IfNone result
-        (32 < length (joined_values property.now.is_additive (property.now.values ++ value ∷ []) above.now)) }
+    ensures short { IsSome result → length (joined_values property.now.is_additive (property.now.values ++ value ∷ []) above.now) ≤ 32 }
+    ensures long { IfNone result (32 < length (joined_values property.now.is_additive (property.now.values ++ value ∷ []) above.now)) }
     ensures little { IfSome result (λ sizes. (sizes.1.bytes ≤ 67) × (sizes.1.fixups ≤ 65) × (sizes.1.individuals ≤ 1)) }
 {
     let (number, is_additive) = (property.number, property.is_additive);
@@ -180,7 +178,6 @@ fn push_value(properties: &mut Vec<Property>, value: Value) -> Result<(), AllocE
     Ok(())
 }
 
-/// Returns the fault of too little room, where properties of the size `size` lack it.
 fn full_fault(size: Size, room: Room) -> Option<GiveFault>
     requires bytes { size.bytes < 2 ^ 33 }
     requires fixups { size.fixups < 2 ^ 33 }
@@ -268,10 +265,8 @@ impl OpenProperties {
         requires { has number self.now.own ≡ false }
         ensures some { let p = given_first number is_additive first in
             IfSome result (λ size. size ≡ total self.now.owner (inherited (self.now.own ++ p ∷ []) self.now.above)) }
-        ensures short { let p = given_first number is_additive first in
-            IsSome result → is_short (joined self.now.above p) ≡ true }
-        ensures long { let p = given_first number is_additive first in
-            IfNone result (is_short (joined self.now.above p) ≡ false) }
+        ensures short { let p = given_first number is_additive first in IsSome result → is_short (joined self.now.above p) ≡ true }
+        ensures long { let p = given_first number is_additive first in IfNone result (is_short (joined self.now.above p) ≡ false) }
         ensures small { IfSome result (λ size. (size.bytes < 2 ^ 33) × (size.fixups < 2 ^ 33)) }
     {
         let (lost, above) = self.above_of(number);
@@ -416,8 +411,7 @@ impl OpenProperties {
     pub fn inherit(&mut self, class: &Properties, room: Room) -> Result<(), GiveFault>
         ensures ok { OnOk result (self.new ≡ with_class class.now self.old) }
         ensures err { OnErr result (self.new ≡ self.old) }
-        ensures fault { let fault = class_fault class.now room self.old in
-            MatchResult result (λ _. fault ≡ None) (class_refused fault) }
+        ensures fault { let fault = class_fault class.now room self.old in MatchResult result (λ _. fault ≡ None) (class_refused fault) }
     {
         let above = inherited(
             self.alloc,

@@ -21,7 +21,6 @@ fn property_at(properties: &[Property], place: usize) -> Option<&Property>
     properties.get(place)
 }
 
-/// Returns the property at `place`, if it has the number `number`.
 fn checked(properties: &[Property], place: usize, number: usize) -> Option<&Property>
     ensures { option_map (λ p. p.now) result ≡ checked number (slice_get properties.now place) }
 {

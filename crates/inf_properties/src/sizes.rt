@@ -61,7 +61,6 @@ pub(crate) const MOST_VALUES: usize = 32;
 /// The first number of individual properties.
 const FIRST_INDIVIDUAL: usize = 64;
 
-/// Counts the values that are known later.
 pub(crate) fn later_count(values: &[Value]) -> usize
     ensures value { result ≡ later_count values.now }
     ensures within { result ≤ length values.now }
@@ -122,7 +121,6 @@ impl Owner {
 impl Size {
     ghost use Rattle.inf_properties.specs.Sizes.{with_table};
 
-    /// Returns this size with the end of an individual table, and the property that has its address, where there is such a table.
     pub(crate) fn with_table(self) -> Size
         requires bytes { self.bytes < 2 ^ 33 }
         requires fixups { self.fixups < 2 ^ 33 }

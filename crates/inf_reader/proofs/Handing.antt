@@ -14,8 +14,7 @@ abbrev end_of : List ℕ → Place → Bool → SourceToken
 end_of bytes place named = record { kind = TokenKind.End; bytes = bytes; place = place; is_class = named }
 
 unfit_end : (limits : Limits) (m : Recovery) (context : Context) (bytes : List ℕ) (place : Place) (named : Bool) (s : ReaderState) →
-    s.reading.mode ≡ m →
-    (unfit_in limits m context (end_of bytes place named) s).reading.mode ≡ Recovery.Ended
+    s.reading.mode ≡ m → (unfit_in limits m context (end_of bytes place named) s).reading.mode ≡ Recovery.Ended
 unfit_end limits Recovery.Reads context bytes place named s e = refl
 unfit_end limits Recovery.SkipsRoutine context bytes place named s e =
     end_at limits s.reading.mode context TokenKind.End bytes place named s.reading s.work refl refl
@@ -25,8 +24,7 @@ unfit_end limits Recovery.Ended context bytes place named s e =
     end_at limits s.reading.mode context TokenKind.End bytes place named s.reading s.work refl refl
 
 end_handed : (limits : Limits) (h : Forwarded) (context : Context) (bytes : List ℕ) (place : Place) (named : Bool) (s : ReaderState) →
-    is_on h ≡ true →
-    (handed_as limits h context (end_of bytes place named) s).reading.mode ≡ Recovery.Ended
+    is_on h ≡ true → (handed_as limits h context (end_of bytes place named) s).reading.mode ≡ Recovery.Ended
 end_handed limits Forwarded.Condition context bytes place named s on = let never : false ≡ true = on in cc
 end_handed limits Forwarded.Kept context bytes place named s on =
     end_at limits s.reading.mode context TokenKind.End bytes place named s.reading s.work refl refl
@@ -42,8 +40,7 @@ ended_mode limits None context s = refl
 ended_mode limits (Some place) context s = refl
 
 pub end_taken : (limits : Limits) (context : Context) (bytes : List ℕ) (place : Place) (named : Bool) (j : Filtered) (h : Forwarded)
-    (s : ReaderState) → j.token ≡ Some h →
-    is_on h ≡ true
+    (s : ReaderState) → j.token ≡ Some h → is_on h ≡ true
     → (judged_taken limits context (end_of bytes place named) j s).reading.mode ≡ Recovery.Ended
 end_taken limits context bytes place named j h s e on =
     let told =

@@ -26,16 +26,13 @@ pub fronts_begin : FrontsBegin
 fronts_begin seen n b = record {
   begins = (bad_tokens_begin_nothing grammar known piece_rule (take n seen) language_is_decided).0
       (read_before (read grammar known piece (take n seen)) (drop n seen) whole);
-}
-  where
-    all : is_some (read grammar known piece seen) ≡ true
-    all = (bad_tokens_begin_nothing grammar known piece_rule seen language_is_decided).1 b.begins
+} where
+  all : is_some (read grammar known piece seen) ≡ true
+  all = (bad_tokens_begin_nothing grammar known piece_rule seen language_is_decided).1 b.begins
 
-    whole : is_some (read_on grammar known (read grammar known piece (take n seen)) (drop n seen)) ≡ true
-    whole =
-        ap is_some (sym (read_append grammar known piece (take n seen) (drop n seen)))
-        ∙ ap (λ ts. is_some (read grammar known piece ts)) (take-append-drop n seen)
-        ∙ all
+  whole : is_some (read_on grammar known (read grammar known piece (take n seen)) (drop n seen)) ≡ true
+  whole = ap is_some (sym (read_append grammar known piece (take n seen) (drop n seen)))
+      ∙ ap (λ ts. is_some (read grammar known piece ts)) (take-append-drop n seen) ∙ all
 
 -- Lemmas about tokens that are faulty by themselves
 

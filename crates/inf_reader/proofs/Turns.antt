@@ -25,12 +25,10 @@ end_read : (limits : Limits) (context : Context) (bytes : List ℕ) (place : Pla
     → (read_at limits context (record { kind = TokenKind.End; bytes = bytes; place = place; is_class = named }) stack r w).reading.mode ≡
     Recovery.Ended
 end_read limits context bytes place named [] r w = refl
-end_read limits context bytes place named (symbol ∷ stack) r w =
-    end_in_piece limits context bytes place named r w
+end_read limits context bytes place named (symbol ∷ stack) r w = end_in_piece limits context bytes place named r w
 
 pub end_at : (limits : Limits) (m : Recovery) (context : Context) (k : TokenKind) (bytes : List ℕ) (place : Place) (named : Bool)
-    (r : Reading) (w : Compilation) →
-    is_end k ≡ true → r.mode ≡ m
+    (r : Reading) (w : Compilation) → is_end k ≡ true → r.mode ≡ m
     → (step_in limits m context (record { kind = k; bytes = bytes; place = place; is_class = named }) r w).reading.mode ≡ Recovery.Ended
 end_at limits Recovery.Reads context TokenKind.End bytes place named r w h e = end_read limits context bytes place named r.stack r w
 end_at limits Recovery.SkipsRoutine context TokenKind.End bytes place named r w h e = refl

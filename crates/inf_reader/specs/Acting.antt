@@ -1,5 +1,5 @@
 -- The effect of each action of the grammar.
-use Rattle.std.specs.Prelude.{ℕ, ◌/◌, List, [], ◌∷◌, length, Bool, false, true, ◌&&◌, None, Some, nat_lt, if◌then◌else◌, Option}
+use Rattle.std.specs.Prelude.{ℕ, List, [], ◌∷◌, Bool, false, true, ◌&&◌, None, Some, nat_lt, if◌then◌else◌, Option}
 use Rattle.inf_settings.specs.{Bounds.Limits, Settings.number_of, declared.setting.Setting.Setting}
 use Rattle.inf_scanner.specs.declared.tokens.Place.{Place}
 use Rattle.inf_syntax.specs.declared.actions.Action.{Action}
@@ -31,11 +31,10 @@ is_tall context w = nat_lt (number_of Setting.Objects context.settings) (last_le
 
 -- The operands of the unit at hand, which are more than an instruction has, name their locals, and the finding about them is kept.
 abbrev pub operands_named : Compilation → Compilation
-operands_named w =
-    record w {
-      locals = leaves_named w.unit.tokens w.unit.gathering.leaves w.locals;
-      unit = operands_passed (finding_at (order w.unit.begun) Wanted.Operand w) w.unit;
-    }
+operands_named w = record w {
+  locals = leaves_named w.unit.tokens w.unit.gathering.leaves w.locals;
+  unit = operands_passed (finding_at (order w.unit.begun) Wanted.Operand w) w.unit;
+}
 
 -- A note is made of the unit at hand, by which its outermost expression may be too long. Only some of the texts that are printed, and of
 -- the arrows before an object's name, are kept, and no operands where these are too many; of the tokens of a line of grammar that is too

@@ -22,8 +22,7 @@ fit_ended limits context first w = unit_ended limits context first true nothing_
 abbrev pub carried_out : Limits → Directive → Context → Place → List Name → Compilation → Compilation
 carried_out limits Directive.Include context first names w =
     fit_ended limits context first (record w { asked = Include (quoted_in w.unit.tokens) first })
-carried_out limits Directive.Message context first names w =
-    fit_ended limits context first
+carried_out limits Directive.Message context first names w = fit_ended limits context first
     (record w { report = with_words (location context.names first) (weight_of names) (words_of context.set w.unit) w.report })
 carried_out limits Directive.End context first names w = fit_ended limits context first (record w { asked = End })
 carried_out limits Directive.Constant context first names w = constant limits context first names w

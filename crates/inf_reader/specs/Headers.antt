@@ -16,8 +16,7 @@ abbrev pub class_named : Limits → Context → Place → List Name → Compilat
 class_named limits context first [] w = passed false w
 class_named limits context first (name ∷ names) w = class_header limits context first name w
 
--- the kind of a directive with a header, by its word; one of an object begins with its own word or with the name of a
--- class
+-- the kind of a directive with a header, by its word; one of an object begins with its own word or with the name of a class
 abbrev pub heading_of : Option Keyword → Heading
 heading_of (Some Keyword.Array) = Heading.Array
 heading_of (Some Keyword.Class) = Heading.Class

@@ -1,5 +1,5 @@
 -- The pieces of a source.
-use Rattle.std.specs.Prelude.{◌≡◌, ℕ, List, [], ◌∷◌, take, Bool, false, Some}
+use Rattle.std.specs.Prelude.{◌≡◌, ℕ, List, [], ◌∷◌, take, false, Some}
 use Rattle.inf_unit.specs.Tokens.{SourceToken, atom_of}
 use Rattle.inf_report.specs.Messages.{Message}
 use Rattle.inf_syntax.specs.declared.actions.Action.{Action}

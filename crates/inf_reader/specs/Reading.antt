@@ -3,7 +3,6 @@
 -- it cuts gives nothing. Designer's Manual, fourth edition, sections 1.3, 1.4 and 1.7.
 use Rattle.std.specs.Prelude.{ℕ, List, [], ◌∷◌, Bool, true, false, ◌||◌, if◌then◌else◌}
 use Rattle.inf_settings.specs.{Bounds.Limits, declared.settings.Settings.Settings}
-use Rattle.inf_characters.specs.declared.characters.CharSet.{CharSet}
 use Rattle.inf_scanner.specs.{declared.tokens.Mark.Mark, declared.tokens.TokenKind.TokenKind}
 use Rattle.inf_report.specs.{Messages.Location, Messages.Message, Messages.kind_of, declared.messages.Kind.Kind}
 use Rattle.inf_unit.specs.Messages.{Reported, location, with_error, with_fatal}

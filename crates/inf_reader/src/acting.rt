@@ -132,16 +132,12 @@ fn act<B: Bounds>(
     }
 }
 
-/// Returns whether the unit at hand prints or gives more than code may have bytes for, by the least number of bytes of the code of each
-/// item. Its code then passes that setting, whatever else it prints or gives.
 fn is_crowded<B: Bounds>(compilation: &Compilation<B>) -> bool
     ensures { result ≡ is_crowded B.most (work compilation.now) }
 {
     compilation.unit.code > compilation.output.code.most_bytes()
 }
 
-/// Returns whether the unit at hand has more arrows than there may be objects. It is then below none, whatever else it has: an object has
-/// as many arrows as there are others above it.
 fn is_tall<B: Bounds>(compilation: &Compilation<B>, context: &Context<'_>) -> bool
     ensures { result ≡ is_tall (handed context.now) (work compilation.now) }
 {
@@ -181,15 +177,12 @@ fn note<B: Bounds>(
     keep_note(compilation, context, note)
 }
 
-/// Returns whether the unit at hand has more tokens than the grammar may have bytes. A token of a line of grammar has three bytes, and is
-/// three tokens of the source at most.
 fn is_long<B: Bounds>(compilation: &Compilation<B>, context: &Context<'_>) -> bool
     ensures { result ≡ is_long (handed context.now) (work compilation.now) }
 {
     compilation.unit.last() > context.settings.of(Setting::GrammarLines) as usize
 }
 
-/// Returns whether the unit at hand has more tokens than there may be words.
 fn is_wordy<B: Bounds>(compilation: &Compilation<B>, context: &Context<'_>) -> bool
     ensures { result ≡ is_wordy (handed context.now) (work compilation.now) }
 {

@@ -73,8 +73,7 @@ fn directive_of_names<B: Bounds>(
     }
 }
 
-/// Begins code with a directive, unless it has begun. `Switches`, whose letters say how code is laid, does not begin
-/// it.
+/// Begins code with a directive, unless it has begun. `Switches`, whose letters say how code is laid, does not begin it.
 fn begin_code<B: Bounds>(compilation: &mut Compilation<B>, directive: Directive)
     ensures { work compilation.new ≡ code_begun_by B.most directive (work compilation.old) }
 {

@@ -29,7 +29,6 @@ pub enum Heading {
     Abbreviate,
 }
 
-/// Returns the kind of a directive with a header, by its `word`. An object may have the name of a class for it.
 fn heading_of(word: Option<Keyword>) -> Heading
     ensures { result ≡ heading_of word }
 {

@@ -198,8 +198,7 @@ impl<B: Bounds> Progress<B> {
         context: &Context<'_>,
         token: &SourceToken<'_>,
     ) -> Result<(), AllocError>
-        ensures { let before = reading self.old.reader in
-            OnOk result (standing self.new
+        ensures { let before = reading self.old.reader in OnOk result (standing self.new
             ≡ read_at B.most (handed context.now) (spelled token.now) before.stack before (work self.old.work)) }
     {
         if !self.reader.machine.is_done() {
@@ -241,8 +240,7 @@ impl<B: Bounds> Progress<B> {
 
     /// Takes a token of the piece at hand, if it fits; else it is the bad one.
     fn judge(&mut self, context: &Context<'_>, token: &SourceToken<'_>) -> Result<(), AllocError>
-        ensures { let before = reading self.old.reader in
-            OnOk result (standing self.new
+        ensures { let before = reading self.old.reader in OnOk result (standing self.new
             ≡ judged B.most (handed context.now) (spelled token.now) before (work self.old.work)) }
     {
         if !self.reader.read(token.atom(), &mut self.actions)? {
@@ -271,7 +269,6 @@ impl<B: Bounds> Progress<B> {
     }
 }
 
-/// Returns a `#` at a place.
 fn hash(place: Place) -> SourceToken<'static>
     ensures { spelled result ≡ hash place }
 {

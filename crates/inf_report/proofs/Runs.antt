@@ -22,32 +22,28 @@ one_more n = omega arith
 spaces_shown : (set : CharSet) (run bytes : List ℕ) → shown_behind set run bytes ≡ spaced
     (run ++ take (prefix_len (is_white set) bytes) bytes) ++ shown_behind set [] (drop (prefix_len (is_white set) bytes) bytes)
 spaces_shown set run [] = ap spaced (sym (append-nil run)) ∙ sym (append-nil (spaced (run ++ [])))
-spaces_shown set run (b ∷ bs) = go (is_white set b) refl (spaces_shown set (run ++ b ∷ []) bs)
-  where
-    go : (t : Bool) → is_white set b ≡ t
-        → shown_behind set (run ++ b ∷ []) bs ≡ spaced ((run ++ b ∷ []) ++ take (prefix_len (is_white set) bs) bs) ++ shown_behind set []
-        (drop (prefix_len (is_white set) bs) bs)
-        → cond t (shown_behind set (run ++ b ∷ []) bs) (spaced run ++ b ∷ shown_behind set [] bs)
-        ≡ spaced (run ++ take (cond t (1 + prefix_len (is_white set) bs) 0) (b ∷ bs)) ++ shown_behind set []
-        (drop (cond t (1 + prefix_len (is_white set) bs) 0) (b ∷ bs))
-    go true is later = rw (one_more (prefix_len (is_white set) bs))
-        (later ∙ ap (λ xs. spaced xs ++ shown_behind set [] (drop (prefix_len (is_white set) bs) bs))
-        (append_assoc run (b ∷ []) (take (prefix_len (is_white set) bs) bs)))
-    go false is later = rw (is, append-nil run) refl
+spaces_shown set run (b ∷ bs) = go (is_white set b) refl (spaces_shown set (run ++ b ∷ []) bs) where
+  go : (t : Bool) → is_white set b ≡ t
+      → shown_behind set (run ++ b ∷ []) bs ≡ spaced ((run ++ b ∷ []) ++ take (prefix_len (is_white set) bs) bs) ++ shown_behind set []
+      (drop (prefix_len (is_white set) bs) bs) → cond t (shown_behind set (run ++ b ∷ []) bs) (spaced run ++ b ∷ shown_behind set [] bs)
+      ≡ spaced (run ++ take (cond t (1 + prefix_len (is_white set) bs) 0) (b ∷ bs)) ++ shown_behind set []
+      (drop (cond t (1 + prefix_len (is_white set) bs) 0) (b ∷ bs))
+  go true is later = rw (one_more (prefix_len (is_white set) bs))
+      (later ∙ ap (λ xs. spaced xs ++ shown_behind set [] (drop (prefix_len (is_white set) bs) bs))
+      (append_assoc run (b ∷ []) (take (prefix_len (is_white set) bs) bs)))
+  go false is later = rw (is, append-nil run) refl
 
 -- bytes that begin no white space are shown as they are
 others_shown : (set : CharSet) (bytes : List ℕ) → shown_behind set [] bytes ≡ take (prefix_len (is_alike set false) bytes) bytes ++
     shown_behind set [] (drop (prefix_len (is_alike set false) bytes) bytes)
 others_shown set [] = refl
-others_shown set (b ∷ bs) = go (is_white set b) refl (others_shown set bs)
-  where
-    go : (t : Bool) → is_white set b ≡ t → shown_behind set [] bs ≡ take (prefix_len (is_alike set false) bs) bs ++ shown_behind set []
-        (drop (prefix_len (is_alike set false) bs) bs)
-        → cond t (shown_behind set (b ∷ []) bs) (b ∷ shown_behind set [] bs)
-        ≡ take (cond (not t) (1 + prefix_len (is_alike set false) bs) 0) (b ∷ bs) ++ shown_behind set []
-        (drop (cond (not t) (1 + prefix_len (is_alike set false) bs) 0) (b ∷ bs))
-    go true is later = rw is refl
-    go false is later = rw (one_more (prefix_len (is_alike set false) bs)) (ap (λ xs. b ∷ xs) later)
+others_shown set (b ∷ bs) = go (is_white set b) refl (others_shown set bs) where
+  go : (t : Bool) → is_white set b ≡ t → shown_behind set [] bs ≡ take (prefix_len (is_alike set false) bs) bs ++ shown_behind set []
+      (drop (prefix_len (is_alike set false) bs) bs) → cond t (shown_behind set (b ∷ []) bs) (b ∷ shown_behind set [] bs)
+      ≡ take (cond (not t) (1 + prefix_len (is_alike set false) bs) 0) (b ∷ bs) ++ shown_behind set []
+      (drop (cond (not t) (1 + prefix_len (is_alike set false) bs) 0) (b ∷ bs))
+  go true is later = rw is refl
+  go false is later = rw (one_more (prefix_len (is_alike set false) bs)) (ap (λ xs. b ∷ xs) later)
 
 run_shown : (set : CharSet) (is_space : Bool) (bytes : List ℕ) → shown_behind set [] bytes ≡ shown_run is_space
     (take (prefix_len (is_alike set is_space) bytes) bytes) ++ shown_behind set [] (drop (prefix_len (is_alike set is_space) bytes) bytes)
@@ -72,8 +68,7 @@ pub record IsRun (set : CharSet) (is_space : Bool) (rest behind piece : List ℕ
   pub is_piece : piece ≡ shown_run is_space (take count rest)
 
 cut_of : (set : CharSet) (is_space : Bool) (whole rest behind piece done : List ℕ) → IsRun set is_space rest behind piece →
-    shown_behind set [] whole ≡ done ++ shown_behind set [] rest
-    → shown_behind set [] whole ≡ (done ++ piece) ++ shown_behind set [] behind
+    shown_behind set [] whole ≡ done ++ shown_behind set [] rest → shown_behind set [] whole ≡ (done ++ piece) ++ shown_behind set [] behind
 cut_of set is_space whole rest behind piece done run cut =
     rw (run.is_behind, run.is_piece) (cut_again set is_space whole rest done run.count run.is_count cut)
 
@@ -96,6 +91,5 @@ pub shows_failed : (old mid new : Option (List ℕ)) (a b c : ℕ) (set : CharSe
     → Shows old mid a b set whole rest → TakesPart mid new piece × (b ≤ c) × Rose b c → Writes old new a c (shown_behind set [] whole) r
 shows_failed old mid new a b c set is_space whole rest behind piece r is run shows next =
     let cut = cut_of set is_space whole rest behind piece shows.done run shows.is_cut in
-    rw cut
-    (with_more old new a c (shows.done ++ piece) (shown_behind set [] behind) r is
+    rw cut (with_more old new a c (shows.done ++ piece) (shown_behind set [] behind) r is
     (goes_on old mid new a b c shows.done piece r (shows.takes, shows.quiet) (failed mid new b c piece r is next)))

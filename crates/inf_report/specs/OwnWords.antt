@@ -26,8 +26,7 @@ shown_run is_space run = if is_space then spaced run else run
 -- the bytes that a line shows of white space and of the bytes behind it
 abbrev pub shown_behind : CharSet → List ℕ → List ℕ → List ℕ
 shown_behind set run [] = spaced run
-shown_behind set run (b ∷ bs) =
-    if is_white set b then shown_behind set (run ++ b ∷ []) bs else spaced run ++ b ∷ shown_behind set [] bs
+shown_behind set run (b ∷ bs) = if is_white set b then shown_behind set (run ++ b ∷ []) bs else spaced run ++ b ∷ shown_behind set [] bs
 
 abbrev pub shown : Words → List ℕ
 shown words = shown_behind words.set [] words.bytes

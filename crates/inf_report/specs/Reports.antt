@@ -25,8 +25,7 @@ is_last c = c.errors + 1 == most_errors
 
 -- the lines of an error at a place, in a unit that begins at another or the same: the last error is followed by a fatal one there
 abbrev pub error_lines : Location → Location → Message → Counts → List ℕ
-error_lines at unit m c =
-    if c.is_over then [] else
+error_lines at unit m c = if c.is_over then [] else
     if is_last c then line_of Kind.Error at m ++ line_of Kind.Fatal unit TooManyErrors else line_of Kind.Error at m
 
 abbrev pub with_error : Counts → Counts

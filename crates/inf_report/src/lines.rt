@@ -38,8 +38,7 @@ fn write_place<S: Sink>(to: &mut S, at: Location<'_>) -> Result<(), ReportFault>
 
 /// Writes the text of a message.
 fn write_text<S: Sink>(to: &mut S, wording: Wording<'_>) -> Result<(), ReportFault>
-    ensures { Writes (S.taken to.old) (S.taken to.new) (S.failures to.old) (S.failures to.new)
-        (said wording.entry) result }
+    ensures { Writes (S.taken to.old) (S.taken to.new) (S.failures to.old) (S.failures to.new) (said wording.entry) result }
 {
     match wording {
         Wording::Phrase {
@@ -95,8 +94,7 @@ pub(crate) fn write_closing<S: Sink>(
     errors: u32,
     warnings: u64,
 ) -> Result<(), ReportFault>
-    ensures { Writes (S.taken to.old) (S.taken to.new) (S.failures to.old) (S.failures to.new)
-        (closing errors warnings) result }
+    ensures { Writes (S.taken to.old) (S.taken to.new) (S.failures to.old) (S.failures to.new) (closing errors warnings) result }
 {
     let mut first = Buffer::new();
     let mut second = Buffer::new();

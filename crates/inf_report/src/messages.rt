@@ -8,7 +8,7 @@ use crate::wordings::Wording;
 use inf_settings::setting::Setting;
 
 /// The weight of a message.
-#[derive(Clone, Copy)]
+#[derive(Clone, Copy, Debug, PartialEq, Eq)]
 pub enum Kind {
     /// An error: no story is written.
     Error,

@@ -25,8 +25,7 @@ pub(crate) fn write_bytes<S: Sink>(to: &mut S, bytes: &[u8]) -> Result<(), Repor
 
 /// Writes two pieces, one behind the other.
 fn write_two<S: Sink>(to: &mut S, first: &[u8], second: &[u8]) -> Result<(), ReportFault>
-    ensures { Writes (S.taken to.old) (S.taken to.new) (S.failures to.old) (S.failures to.new)
-        (first.now ++ second.now) result }
+    ensures { Writes (S.taken to.old) (S.taken to.new) (S.failures to.old) (S.failures to.new) (first.now ++ second.now) result }
 {
     write_bytes(to, first)?;
     write_bytes(to, second)

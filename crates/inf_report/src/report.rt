@@ -41,8 +41,7 @@ impl Model for Report {
 }
 
 impl Report {
-    /// Returns a report of no messages yet. `has_warnings` says whether warnings are reported: else they are not
-    /// counted either.
+    /// Returns a report of no messages yet. `has_warnings` says whether warnings are reported: else they are not counted either.
     pub fn new(has_warnings: bool) -> Report
         ensures { result ≡ no_counts has_warnings }
     {

@@ -14,13 +14,11 @@ both n x ascii latin1 CharSet.Latin1 = latin1
 
 pick : (set : CharSet) (b n : ℕ) (x m : Mark) (later : Option Mark) → ((set : CharSet) → begin set n ≡ begins x)
     → (later ≡ Some m → begin set b ≡ begins m) → cond (b == n) (Some x) later ≡ Some m → begin set b ≡ begins m
-pick set b n x m later is next = by (b == n) refl
-  where
-    by : (t : Bool) → b == n ≡ t → cond t (Some x) later ≡ Some m → begin set b ≡ begins m
-    by true e f =
-        let same : x ≡ m = cc in
-        ap (begin set) (eqb-true b n e) ∙ is set ∙ ap begins same
-    by false e f = next f
+pick set b n x m later is next = by (b == n) refl where
+  by : (t : Bool) → b == n ≡ t → cond t (Some x) later ≡ Some m → begin set b ≡ begins m
+  by true e f =
+      let same : x ≡ m = cc in ap (begin set) (eqb-true b n e) ∙ is set ∙ ap begins same
+  by false e f = next f
 
 none : (set : CharSet) (b : ℕ) (m : Mark) → None ≡ Some m → begin set b ≡ begins m
 none set b m e = cc

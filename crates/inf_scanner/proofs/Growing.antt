@@ -70,5 +70,4 @@ after_within set limit (Turn.Behind e) seen b bs h = omega arith
 pub rest_within : (set : CharSet) (limit : ℕ) (s : State) (seen : Sight) (bs : List ℕ) → length (find set limit s seen bs).rest ≤ length bs
 rest_within set limit s seen [] = omega arith
 rest_within set limit s seen (b ∷ bs) =
-    let t = turn set limit s b seen in
-    after_within set limit t.0 t.1 b bs (λ next. rest_within set limit next t.1 bs)
+    let t = turn set limit s b seen in after_within set limit t.0 t.1 b bs (λ next. rest_within set limit next t.1 bs)

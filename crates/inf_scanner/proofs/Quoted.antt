@@ -28,11 +28,9 @@ quote_ends : (set : CharSet) (limit : ℕ) (bs : List ℕ) (a : Bool) (seen : Si
 quote_ends set limit [] a seen = refl
 quote_ends set limit (b ∷ bs) a seen = cond_both (is_line_end b) (ByteStep.Behind Ending.Unclosed)
     (cond (b == 39 && not a) (ByteStep.Close Ending.Quote) (ByteStep.Keep (State.Quote (b == 64))))
-    (λ s. is_quoted (after set limit s b seen bs).ending ≡ true)
-    (λ _. refl)
+    (λ s. is_quoted (after set limit s b seen bs).ending ≡ true) (λ _. refl)
     (λ _. cond_both (b == 39 && not a) (ByteStep.Close Ending.Quote) (ByteStep.Keep (State.Quote (b == 64)))
-    (λ s. is_quoted (after set limit s b seen bs).ending ≡ true)
-    (λ _. refl) (λ _. quote_ends set limit bs (b == 64) (kept limit b seen)))
+    (λ s. is_quoted (after set limit s b seen bs).ending ≡ true) (λ _. refl) (λ _. quote_ends set limit bs (b == 64) (kept limit b seen)))
 
 -- No other token keeps more than 32 bytes.
 
@@ -49,12 +47,9 @@ mark_more limit m None = omega arith
 first_kept : (set : CharSet) (limit b : ℕ) → most_behind limit (step_of set State.Gap b) ≤ 32
 first_kept set limit b =
     let P : ByteStep → Type 0 = λ s. most_behind limit s ≤ 32 in
-    cond_both (is_white set b) _ _ P (λ _. omega arith)
-    (λ _. cond_both (is_run_byte b) _ _ P (λ _. omega arith)
-    (λ _. cond_both (b == 33) _ _ P (λ _. omega arith)
-    (λ _. cond_both (b == 34) _ _ P (λ _. omega arith)
-    (λ _. cond_both (b == 39) _ _ P (λ _. omega arith)
-    (λ _. mark_first limit (first_mark b))))))
+    cond_both (is_white set b) _ _ P (λ _. omega arith) (λ _. cond_both (is_run_byte b) _ _ P (λ _. omega arith)
+    (λ _. cond_both (b == 33) _ _ P (λ _. omega arith) (λ _. cond_both (b == 34) _ _ P (λ _. omega arith)
+    (λ _. cond_both (b == 39) _ _ P (λ _. omega arith) (λ _. mark_first limit (first_mark b))))))
 
 run_kept : (set : CharSet) (limit b : ℕ) (n : Bool) → most_behind limit (step_of set (State.Run n) b) ≤ 32
 run_kept set limit b n = cond_both (is_run_byte b) (ByteStep.Keep (State.Run (n || b == 36))) (ByteStep.Behind (Ending.Run n))
@@ -71,19 +66,17 @@ keeps_quoted set limit State.Text b seen bs less = text_ends set limit bs seen
 keeps_quoted set limit (State.Quote a) b seen bs less = quote_ends set limit bs a seen
 
 pub quoted_from : (set : CharSet) (limit : ℕ) (s : State) (b : ℕ) (seen : Sight) (bs : List ℕ) (f : Found) →
-    32 < most_behind limit (step_of set s b)
-    → find set limit s seen bs ≡ f → is_quoted f.ending ≡ true
+    32 < most_behind limit (step_of set s b) → find set limit s seen bs ≡ f → is_quoted f.ending ≡ true
 quoted_from set limit s b seen bs f less e = ap (λ (g : Found). is_quoted g.ending) (sym e) ∙ keeps_quoted set limit s b seen bs less
 
 -- a token of which more than 32 bytes may be kept in this state ends as a quoted one
 pub quoted_in : (set : CharSet) (limit : ℕ) (s : State) (seen : Sight) (bs : List ℕ) (f : Found) → 32 < most limit s →
     find set limit s seen bs ≡ f → is_quoted f.ending ≡ true
-quoted_in set limit s seen bs f less e = ap (λ (g : Found). is_quoted g.ending) (sym e) ∙ by s less
-  where
-    by : (s : State) → 32 < most limit s → is_quoted (find set limit s seen bs).ending ≡ true
-    by State.Gap less = absurd (omega arith)
-    by State.Comment less = absurd (omega arith)
-    by (State.Run n) less = absurd (omega arith)
-    by (State.Mark m) less = absurd (omega arith)
-    by State.Text less = text_ends set limit bs seen
-    by (State.Quote a) less = quote_ends set limit bs a seen
+quoted_in set limit s seen bs f less e = ap (λ (g : Found). is_quoted g.ending) (sym e) ∙ by s less where
+  by : (s : State) → 32 < most limit s → is_quoted (find set limit s seen bs).ending ≡ true
+  by State.Gap less = absurd (omega arith)
+  by State.Comment less = absurd (omega arith)
+  by (State.Run n) less = absurd (omega arith)
+  by (State.Mark m) less = absurd (omega arith)
+  by State.Text less = text_ends set limit bs seen
+  by (State.Quote a) less = quote_ends set limit bs a seen

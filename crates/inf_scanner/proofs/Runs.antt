@@ -20,48 +20,45 @@ no_run test none (b ∷ bs) = cond-false (test b) (1 + prefix_len test bs) 0 (no
 
 -- a byte that passes a test differs from one that fails
 other : (test : ℕ → Bool) (b n : ℕ) → test n ≡ false → test b ≡ true → (b == n) ≡ false
-other test b n fails passes = by (b == n) refl
-  where
-    by : (t : Bool) → (b == n) ≡ t → t ≡ false
-    by true e = let f : true ≡ false = sym passes ∙ ap test (eqb-true b n e) ∙ fails in cc
-    by false e = refl
+other test b n fails passes = by (b == n) refl where
+  by : (t : Bool) → (b == n) ≡ t → t ≡ false
+  by true e = let f : true ≡ false = sym passes ∙ ap test (eqb-true b n e) ∙ fails in cc
+  by false e = refl
 
 neither : (x y : Bool) → x ≡ false → y ≡ false → (x || y) ≡ false
 neither true y e f = cc
 neither false y e f = f
 
 no_end : (s : State) (b : ℕ) → stays s b ≡ true → is_line_end b ≡ false
-no_end s b passes = neither (b == 10) (b == 13) (other (stays s) b 10 (at_10 s) passes) (other (stays s) b 13 (at_13 s) passes)
-  where
-    at_10 : (s : State) → stays s 10 ≡ false
-    at_10 State.Gap = refl
-    at_10 State.Comment = refl
-    at_10 (State.Run n) = refl
-    at_10 (State.Mark m) = refl
-    at_10 State.Text = refl
-    at_10 (State.Quote false) = refl
-    at_10 (State.Quote true) = refl
+no_end s b passes = neither (b == 10) (b == 13) (other (stays s) b 10 (at_10 s) passes) (other (stays s) b 13 (at_13 s) passes) where
+  at_10 : (s : State) → stays s 10 ≡ false
+  at_10 State.Gap = refl
+  at_10 State.Comment = refl
+  at_10 (State.Run n) = refl
+  at_10 (State.Mark m) = refl
+  at_10 State.Text = refl
+  at_10 (State.Quote false) = refl
+  at_10 (State.Quote true) = refl
 
-    at_13 : (s : State) → stays s 13 ≡ false
-    at_13 State.Gap = refl
-    at_13 State.Comment = refl
-    at_13 (State.Run n) = refl
-    at_13 (State.Mark m) = refl
-    at_13 State.Text = refl
-    at_13 (State.Quote false) = refl
-    at_13 (State.Quote true) = refl
+  at_13 : (s : State) → stays s 13 ≡ false
+  at_13 State.Gap = refl
+  at_13 State.Comment = refl
+  at_13 (State.Run n) = refl
+  at_13 (State.Mark m) = refl
+  at_13 State.Text = refl
+  at_13 (State.Quote false) = refl
+  at_13 (State.Quote true) = refl
 
 abbrev calm : Lines → Lines
 calm lines = record { line = lines.line; after_return = false }
 
 past_calm : (b : ℕ) (lines : Lines) → is_line_end b ≡ false → past b lines ≡ calm lines
-past_calm b lines fails = by (b == 10) (b == 13) fails
-  where
-    by : (t u : Bool) → (t || u) ≡ false →
-        record { line = cond (u || (t && not lines.after_return)) (lines.line + 1) lines.line; after_return = u } ≡ calm lines
-    by true u e = cc
-    by false true e = cc
-    by false false e = refl
+past_calm b lines fails = by (b == 10) (b == 13) fails where
+  by : (t u : Bool) → (t || u) ≡ false →
+      record { line = cond (u || (t && not lines.after_return)) (lines.line + 1) lines.line; after_return = u } ≡ calm lines
+  by true u e = cc
+  by false true e = cc
+  by false false e = refl
 
 or_none : (n : Bool) → (n || false) ≡ n
 or_none true = refl
@@ -75,8 +72,7 @@ name_runs false false z e = cc
 run_on : (set : CharSet) (n : Bool) (b : ℕ) → is_name_byte b ≡ true → step_of set (State.Run n) b ≡ ByteStep.Keep (State.Run n)
 run_on set n b passes = cond-true (is_run_byte b) (ByteStep.Keep (State.Run (n || b == 36))) (ByteStep.Behind (Ending.Run n))
     (name_runs (is_letter b || is_digit b) (b == 95) (b == 36) passes)
-    ∙ ap (λ t. ByteStep.Keep (State.Run (n || t))) (other is_name_byte b 36 refl passes)
-    ∙ ap (λ t. ByteStep.Keep (State.Run t)) (or_none n)
+    ∙ ap (λ t. ByteStep.Keep (State.Run (n || t))) (other is_name_byte b 36 refl passes) ∙ ap (λ t. ByteStep.Keep (State.Run t)) (or_none n)
 
 text_on : (set : CharSet) (b : ℕ) → is_plain b ≡ true → step_of set State.Text b ≡ ByteStep.Keep State.Text
 text_on set b passes = cond-false (b == 34) (ByteStep.Close Ending.Text) (ByteStep.Keep State.Text) (other is_plain b 34 refl passes)
@@ -85,27 +81,24 @@ quote_on : (set : CharSet) (b : ℕ) → is_plain b ≡ true → step_of set (St
 quote_on set b passes = cond-false (is_line_end b) (ByteStep.Behind Ending.Unclosed)
     (cond (b == 39 && not false) (ByteStep.Close Ending.Quote) (ByteStep.Keep (State.Quote (b == 64)))) (no_end State.Text b passes)
     ∙ ap (λ t. cond (t && not false) (ByteStep.Close Ending.Quote) (ByteStep.Keep (State.Quote (b == 64))))
-    (other is_plain b 39 refl passes)
-    ∙ ap (λ t. ByteStep.Keep (State.Quote t)) (other is_plain b 64 refl passes)
+    (other is_plain b 39 refl passes) ∙ ap (λ t. ByteStep.Keep (State.Quote t)) (other is_plain b 64 refl passes)
 
 comment_on : (set : CharSet) (b : ℕ) → is_plain b ≡ true → step_of set State.Comment b ≡ ByteStep.Skip State.Comment
 comment_on set b passes = ap (λ s. ByteStep.Skip s) (cond-false (is_line_end b) State.Gap State.Comment (no_end State.Text b passes))
 
 blank_white : (set : CharSet) (b : ℕ) → is_blank b ≡ true → is_white set b ≡ true
-blank_white CharSet.Ascii b passes = by (b == 32) (b == 9) (b == 12) (is_line_end b) passes
-  where
-    by : (x y z w : Bool) → (x || y || z) ≡ true → (x || y || z || w) ≡ true
-    by true y z w e = refl
-    by false true z w e = refl
-    by false false true w e = refl
-    by false false false w e = cc
-blank_white CharSet.Latin1 b passes = by (b == 32) (b == 9) (b == 12) (is_line_end b) (b == 160) passes
-  where
-    by : (x y z w v : Bool) → (x || y || z) ≡ true → (x || y || z || w || v) ≡ true
-    by true y z w v e = refl
-    by false true z w v e = refl
-    by false false true w v e = refl
-    by false false false w v e = cc
+blank_white CharSet.Ascii b passes = by (b == 32) (b == 9) (b == 12) (is_line_end b) passes where
+  by : (x y z w : Bool) → (x || y || z) ≡ true → (x || y || z || w) ≡ true
+  by true y z w e = refl
+  by false true z w e = refl
+  by false false true w e = refl
+  by false false false w e = cc
+blank_white CharSet.Latin1 b passes = by (b == 32) (b == 9) (b == 12) (is_line_end b) (b == 160) passes where
+  by : (x y z w v : Bool) → (x || y || z) ≡ true → (x || y || z || w || v) ≡ true
+  by true y z w v e = refl
+  by false true z w v e = refl
+  by false false true w v e = refl
+  by false false false w v e = cc
 
 gap_on : (set : CharSet) (b : ℕ) → is_blank b ≡ true → step_of set State.Gap b ≡ ByteStep.Skip State.Gap
 gap_on set b passes = cond-true (is_white set b) _ _ (blank_white set b passes)
@@ -158,8 +151,7 @@ first_free set limit State.Text first other kept lines bs gap = cc
 first_free set limit (State.Quote a) first other kept lines bs gap = cc
 
 skips : (set : CharSet) (limit : ℕ) (s : State) (b : ℕ) (bs : List ℕ) (seen : Sight) → is_gap s ≡ true → step_of set s b ≡ ByteStep.Skip s →
-    stays s b ≡ true
-    → find set limit s seen (b ∷ bs) ≡ find set limit s (skipped b seen) bs
+    stays s b ≡ true → find set limit s seen (b ∷ bs) ≡ find set limit s (skipped b seen) bs
 skips set limit s b bs seen gap step passes = ap (λ (x : ByteStep). after set limit x b (marked s seen) bs) step
     ∙ ap (λ (l : Lines). find set limit s (record { first = (marked s seen).first; kept = seen.kept; lines = l }) bs)
     (past_calm b seen.lines (no_end s b passes))
@@ -189,17 +181,14 @@ RunFound set limit s on bytes rest n =
 run_found : (set : CharSet) (limit : ℕ) (s : State) (on : ℕ → Sight → Sight) → Steps set limit s on → (bytes rest : List ℕ)
     → RunFound set limit s on bytes rest (prefix_len (stays s) bytes)
 run_found set limit s on step [] rest seen = refl
-run_found set limit s on step (b ∷ bytes) rest seen = by (stays s b) refl (run_found set limit s on step bytes rest)
-  where
-    by : (t : Bool) → stays s b ≡ t → RunFound set limit s on bytes rest (prefix_len (stays s) bytes)
-        → find set limit s (ran on (take (cond t (1 + prefix_len (stays s) bytes) 0) (b ∷ bytes)) seen)
-        (drop (cond t (1 + prefix_len (stays s) bytes) 0) (b ∷ bytes) ++ rest)
-        ≡ find set limit s seen (b ∷ (bytes ++ rest))
-    by true e later =
-        ap (λ n. find set limit s (ran on (take n (b ∷ bytes)) seen) (drop n (b ∷ bytes) ++ rest)) (one_and (prefix_len (stays s) bytes))
-        ∙ later (on b seen)
-        ∙ sym (step b (bytes ++ rest) seen e)
-    by false e later = refl
+run_found set limit s on step (b ∷ bytes) rest seen = by (stays s b) refl (run_found set limit s on step bytes rest) where
+  by : (t : Bool) → stays s b ≡ t → RunFound set limit s on bytes rest (prefix_len (stays s) bytes)
+      → find set limit s (ran on (take (cond t (1 + prefix_len (stays s) bytes) 0) (b ∷ bytes)) seen)
+      (drop (cond t (1 + prefix_len (stays s) bytes) 0) (b ∷ bytes) ++ rest) ≡ find set limit s seen (b ∷ (bytes ++ rest))
+  by true e later =
+      ap (λ n. find set limit s (ran on (take n (b ∷ bytes)) seen) (drop n (b ∷ bytes) ++ rest)) (one_and (prefix_len (stays s) bytes))
+      ∙ later (on b seen) ∙ sym (step b (bytes ++ rest) seen e)
+  by false e later = refl
 
 -- Lemmas about bytes that are kept
 
@@ -224,44 +213,38 @@ full_kept : (most : ℕ) (bs bytes : List ℕ) → most ≤ length bytes → wit
 full_kept most [] bytes full = none_more most (kept_as bytes true)
 full_kept most (b ∷ bs) bytes full =
     let none : most - length bytes ≡ 0 = omega arith in
-    some_kept most (b ∷ bs) (kept_as bytes true) (omega (arith, none))
-    ∙ ap (λ n. kept_as (bytes ++ take n (b ∷ bs)) true) none
+    some_kept most (b ∷ bs) (kept_as bytes true) (omega (arith, none)) ∙ ap (λ n. kept_as (bytes ++ take n (b ∷ bs)) true) none
     ∙ ap (λ x. kept_as x true) (append-nil bytes)
 
 room_kept : (most b : ℕ) (bs : List ℕ) (k : Kept) → length k.bytes < most →
     with_bytes most (b ∷ bs) k ≡ with_bytes most bs (kept_as (k.bytes ++ b ∷ []) k.is_cut)
-room_kept most b bs k room = by (cases_lt most (length bs + 1 + length k.bytes))
-  where
-    more : length (k.bytes ++ b ∷ []) ≡ length k.bytes + 1
-    more = omega (arith, length-append k.bytes (b ∷ []))
+room_kept most b bs k room = by (cases_lt most (length bs + 1 + length k.bytes)) where
+  more : length (k.bytes ++ b ∷ []) ≡ length k.bytes + 1
+  more = omega (arith, length-append k.bytes (b ∷ []))
 
-    by : (most < length bs + 1 + length k.bytes) ⊎ (length bs + 1 + length k.bytes ≤ most) →
-        with_bytes most (b ∷ bs) k ≡ with_bytes most bs (kept_as (k.bytes ++ b ∷ []) k.is_cut)
-    by (inl full) =
-        let next : most - length k.bytes ≡ suc (most - length (k.bytes ++ b ∷ [])) = omega (arith, more, room) in
-        some_kept most (b ∷ bs) k (omega arith)
-        ∙ ap (λ n. kept_as (k.bytes ++ take n (b ∷ bs)) true) next
-        ∙ ap (λ x. kept_as x true) (sym (append_assoc k.bytes (b ∷ []) (take (most - length (k.bytes ++ b ∷ [])) bs)))
-        ∙ sym (some_kept most bs (kept_as (k.bytes ++ b ∷ []) k.is_cut) (omega (arith, more)))
-    by (inr fits) = all_kept most (b ∷ bs) k (omega arith) ∙ ap (λ x. kept_as x k.is_cut) (sym (append_assoc k.bytes (b ∷ []) bs))
-        ∙ sym (all_kept most bs (kept_as (k.bytes ++ b ∷ []) k.is_cut) (omega (arith, more)))
+  by : (most < length bs + 1 + length k.bytes) ⊎ (length bs + 1 + length k.bytes ≤ most) →
+      with_bytes most (b ∷ bs) k ≡ with_bytes most bs (kept_as (k.bytes ++ b ∷ []) k.is_cut)
+  by (inl full) =
+      let next : most - length k.bytes ≡ suc (most - length (k.bytes ++ b ∷ [])) = omega (arith, more, room) in
+      some_kept most (b ∷ bs) k (omega arith) ∙ ap (λ n. kept_as (k.bytes ++ take n (b ∷ bs)) true) next
+      ∙ ap (λ x. kept_as x true) (sym (append_assoc k.bytes (b ∷ []) (take (most - length (k.bytes ++ b ∷ [])) bs)))
+      ∙ sym (some_kept most bs (kept_as (k.bytes ++ b ∷ []) k.is_cut) (omega (arith, more)))
+  by (inr fits) = all_kept most (b ∷ bs) k (omega arith) ∙ ap (λ x. kept_as x k.is_cut) (sym (append_assoc k.bytes (b ∷ []) bs))
+      ∙ sym (all_kept most bs (kept_as (k.bytes ++ b ∷ []) k.is_cut) (omega (arith, more)))
 
 -- several bytes are kept as the first, and then the others
 one_more : (most b : ℕ) (bs : List ℕ) (k : Kept) → with_bytes most (b ∷ bs) k ≡ with_bytes most bs (with_byte most b k)
-one_more most b bs k = by (cases_lt (length k.bytes) most)
-  where
-    by : (length k.bytes < most) ⊎ (most ≤ length k.bytes) → with_bytes most (b ∷ bs) k ≡ with_bytes most bs (with_byte most b k)
-    by (inl room) = room_kept most b bs k room
-        ∙ ap (with_bytes most bs) (sym (cond-true (nat_lt (length k.bytes) most) (kept_as (k.bytes ++ b ∷ []) k.is_cut)
-        (kept_as k.bytes true) (lt-ltb (length k.bytes) most room)))
-    by (inr full) =
-        let none : most - length k.bytes ≡ 0 = omega arith in
-        some_kept most (b ∷ bs) k (omega (arith, none))
-        ∙ ap (λ n. kept_as (k.bytes ++ take n (b ∷ bs)) true) none
-        ∙ ap (λ x. kept_as x true) (append-nil k.bytes)
-        ∙ sym (full_kept most bs k.bytes full)
-        ∙ ap (with_bytes most bs) (sym (cond-false (nat_lt (length k.bytes) most) (kept_as (k.bytes ++ b ∷ []) k.is_cut)
-        (kept_as k.bytes true) (le-ltb (length k.bytes) most full)))
+one_more most b bs k = by (cases_lt (length k.bytes) most) where
+  by : (length k.bytes < most) ⊎ (most ≤ length k.bytes) → with_bytes most (b ∷ bs) k ≡ with_bytes most bs (with_byte most b k)
+  by (inl room) = room_kept most b bs k room
+      ∙ ap (with_bytes most bs) (sym (cond-true (nat_lt (length k.bytes) most) (kept_as (k.bytes ++ b ∷ []) k.is_cut)
+      (kept_as k.bytes true) (lt-ltb (length k.bytes) most room)))
+  by (inr full) =
+      let none : most - length k.bytes ≡ 0 = omega arith in
+      some_kept most (b ∷ bs) k (omega (arith, none)) ∙ ap (λ n. kept_as (k.bytes ++ take n (b ∷ bs)) true) none
+      ∙ ap (λ x. kept_as x true) (append-nil k.bytes) ∙ sym (full_kept most bs k.bytes full)
+      ∙ ap (with_bytes most bs) (sym (cond-false (nat_lt (length k.bytes) most) (kept_as (k.bytes ++ b ∷ []) k.is_cut)
+      (kept_as k.bytes true) (le-ltb (length k.bytes) most full)))
 
 ran_skipped : (bs : List ℕ) (b : ℕ) (seen : Sight) → ran skipped (b ∷ bs) seen ≡ seen_on seen seen.kept
 ran_skipped [] b seen = refl
@@ -300,29 +283,28 @@ found_skipped set limit s (suc n) (b ∷ bytes) rest seen gap is some =
 -- The first byte of a name, and a mark that is the front of no other
 
 name_black : (set : CharSet) (b : ℕ) → is_name_byte b ≡ true → is_white set b ≡ false
-name_black set b passes = by set
-  where
-    is_none : (n : ℕ) → is_name_byte n ≡ false → (b == n) ≡ false
-    is_none n fails = other is_name_byte b n fails passes
+name_black set b passes = by set where
+  is_none : (n : ℕ) → is_name_byte n ≡ false → (b == n) ≡ false
+  is_none n fails = other is_name_byte b n fails passes
 
-    four : (x y z w : Bool) → x ≡ false → y ≡ false → z ≡ false → w ≡ false → (x || y || z || w) ≡ false
-    four true y z w e f g h = cc
-    four false true z w e f g h = cc
-    four false false true w e f g h = cc
-    four false false false w e f g h = h
+  four : (x y z w : Bool) → x ≡ false → y ≡ false → z ≡ false → w ≡ false → (x || y || z || w) ≡ false
+  four true y z w e f g h = cc
+  four false true z w e f g h = cc
+  four false false true w e f g h = cc
+  four false false false w e f g h = h
 
-    five : (x y z w v : Bool) → x ≡ false → y ≡ false → z ≡ false → w ≡ false → v ≡ false → (x || y || z || w || v) ≡ false
-    five true y z w v e f g h i = cc
-    five false true z w v e f g h i = cc
-    five false false true w v e f g h i = cc
-    five false false false true v e f g h i = cc
-    five false false false false v e f g h i = i
+  five : (x y z w v : Bool) → x ≡ false → y ≡ false → z ≡ false → w ≡ false → v ≡ false → (x || y || z || w || v) ≡ false
+  five true y z w v e f g h i = cc
+  five false true z w v e f g h i = cc
+  five false false true w v e f g h i = cc
+  five false false false true v e f g h i = cc
+  five false false false false v e f g h i = i
 
-    by : (set : CharSet) → is_white set b ≡ false
-    by CharSet.Ascii = four (b == 32) (b == 9) (b == 12) (is_line_end b) (is_none 32 refl) (is_none 9 refl) (is_none 12 refl)
-        (neither (b == 10) (b == 13) (is_none 10 refl) (is_none 13 refl))
-    by CharSet.Latin1 = five (b == 32) (b == 9) (b == 12) (is_line_end b) (b == 160) (is_none 32 refl) (is_none 9 refl) (is_none 12 refl)
-        (neither (b == 10) (b == 13) (is_none 10 refl) (is_none 13 refl)) (is_none 160 refl)
+  by : (set : CharSet) → is_white set b ≡ false
+  by CharSet.Ascii = four (b == 32) (b == 9) (b == 12) (is_line_end b) (is_none 32 refl) (is_none 9 refl) (is_none 12 refl)
+      (neither (b == 10) (b == 13) (is_none 10 refl) (is_none 13 refl))
+  by CharSet.Latin1 = five (b == 32) (b == 9) (b == 12) (is_line_end b) (b == 160) (is_none 32 refl) (is_none 9 refl) (is_none 12 refl)
+      (neither (b == 10) (b == 13) (is_none 10 refl) (is_none 13 refl)) (is_none 160 refl)
 
 name_first : (set : CharSet) (b : ℕ) → is_name_byte b ≡ true → step_of set State.Gap b ≡ ByteStep.Keep (State.Run (is_digit b))
 name_first set b passes = cond-false (is_white set b) _ _ (name_black set b passes)
@@ -334,21 +316,18 @@ name_first set b passes = cond-false (is_white set b) _ _ (name_black set b pass
 pub found_name : (set : CharSet) (limit b : ℕ) (behind rest : List ℕ) (seen : Sight) → slice_get behind 0 ≡ Some b → is_name_byte b ≡ true
     → find set limit (State.Run (is_digit b)) (marked State.Gap seen) (behind ++ rest) ≡ find set limit State.Gap seen (behind ++ rest)
 found_name set limit b [] rest seen is passes = cc
-found_name set limit b (x ∷ behind) rest seen is passes = by x is
-  where
-    by : (x : ℕ) → Some x ≡ Some b → find set limit (State.Run (is_digit b)) (marked State.Gap seen) (x ∷ (behind ++ rest)) ≡ find set limit
-        State.Gap seen (x ∷ (behind ++ rest))
-    by x is =
-        let same : x ≡ b = cc in
-        subst (λ (y : ℕ). find set limit (State.Run (is_digit b)) (marked State.Gap seen) (y ∷ (behind ++ rest)) ≡ find set limit State.Gap
-        seen (y ∷ (behind ++ rest))) (sym same)
-        (ap (λ (s : ByteStep). after set limit s b (marked State.Gap seen) (behind ++ rest))
-        (run_on set (is_digit b) b passes ∙ sym (name_first set b passes)))
+found_name set limit b (x ∷ behind) rest seen is passes = by x is where
+  by : (x : ℕ) → Some x ≡ Some b → find set limit (State.Run (is_digit b)) (marked State.Gap seen) (x ∷ (behind ++ rest)) ≡ find set limit
+      State.Gap seen (x ∷ (behind ++ rest))
+  by x is =
+      let same : x ≡ b = cc in
+      subst (λ (y : ℕ). find set limit (State.Run (is_digit b)) (marked State.Gap seen) (y ∷ (behind ++ rest)) ≡ find set limit State.Gap
+      seen (y ∷ (behind ++ rest))) (sym same) (ap (λ (s : ByteStep). after set limit s b (marked State.Gap seen) (behind ++ rest))
+      (run_on set (is_digit b) b passes ∙ sym (name_first set b passes)))
 
 -- a mark that is the front of no other ends at once
 pub found_mark : (set : CharSet) (limit : ℕ) (m : Mark) (seen : Sight) (bs : List ℕ) → ((b : ℕ) → longer_mark m b ≡ None)
     → record { ending = Ending.Mark m; seen = seen; rest = bs } ≡ find set limit (State.Mark m) seen bs
 found_mark set limit m seen [] whole = refl
 found_mark set limit m seen (b ∷ bs) whole = sym (ap (λ (o : Option Mark). after set limit
-    (elim o [ Some x ↦ ByteStep.Keep (State.Mark x) | None ↦ ByteStep.Behind (Ending.Mark m) ])
-    b seen bs) (whole b))
+    (elim o [ Some x ↦ ByteStep.Keep (State.Mark x) | None ↦ ByteStep.Behind (Ending.Mark m) ]) b seen bs) (whole b))

@@ -121,26 +121,21 @@ in_gap set limit b bs later seen k =
     (λ no_white. cond_both (is_run_byte b) _ _ P
     (λ run. here set limit _ b (b ∷ []) bs seen.lines (or_from (is_white set b) (b == 33) no_white (run_is_no_mark b run)) refl
     (run_tail set limit bs (begins_number b) (kept 32 b now) (b ∷ []) (omega arith) (and_from (is_run_byte b) true run refl)
-    (ap (with_byte 32 b) k ∙ ap (with_byte 32 b) (kept_nothing 32) ∙ kept_more 32 b [])))
-    (λ _. cond_both (b == 33) _ _ P
+    (ap (with_byte 32 b) k ∙ ap (with_byte 32 b) (kept_nothing 32) ∙ kept_more 32 b []))) (λ _. cond_both (b == 33) _ _ P
     (λ comment. wider set limit _ false true b bs seen.lines (λ gap behind. comment_gap set b gap behind comment)
-    (later true (passed b now) k))
-    (λ no_comment. cond_both (b == 34) _ _ P
+    (later true (passed b now) k)) (λ no_comment. cond_both (b == 34) _ _ P
     (λ quote. here set limit _ b (34 ∷ []) bs seen.lines (or_from (is_white set b) (b == 33) no_white no_comment)
-    (ap (λ q. q ∷ []) (sym (eqb-true b 34 quote)))
-    (text_tail set limit bs (passed b now) [] refl (k ∙ kept_nothing limit)))
+    (ap (λ q. q ∷ []) (sym (eqb-true b 34 quote))) (text_tail set limit bs (passed b now) [] refl (k ∙ kept_nothing limit)))
     (λ _. cond_both (b == 39) _ _ P
     (λ quote. here set limit _ b (39 ∷ []) bs seen.lines (or_from (is_white set b) (b == 33) no_white no_comment)
-    (ap (λ q. q ∷ []) (sym (eqb-true b 39 quote)))
-    (quote_tail set limit bs false (passed b now) [] refl refl (k ∙ kept_nothing limit)))
+    (ap (λ q. q ∷ []) (sym (eqb-true b 39 quote))) (quote_tail set limit bs false (passed b now) [] refl refl (k ∙ kept_nothing limit)))
     (λ _. at_mark set limit b bs seen (or_from (is_white set b) (b == 33) no_white no_comment) k (first_mark b) refl)))))
 
 in_comment : (set : CharSet) (limit : ℕ) (b : ℕ) (bs : List ℕ) → GapSpelled set limit bs → (seen : Sight) → seen.kept ≡ nothing_kept
     → Gapped set limit (find set limit State.Comment seen (b ∷ bs)) true (b ∷ bs) seen.lines
 in_comment set limit b bs later seen k =
     let now : Sight = marked State.Comment seen in
-    cond_both (is_line_end b) State.Gap State.Comment
-    (λ s. Gapped set limit (find set limit s (passed b now) bs) true (b ∷ bs) seen.lines)
+    cond_both (is_line_end b) State.Gap State.Comment (λ s. Gapped set limit (find set limit s (passed b now) bs) true (b ∷ bs) seen.lines)
     (λ yes. wider set limit _ true false b bs seen.lines (λ gap behind. ap (λ c. are_gaps set (not c) gap behind) yes)
     (later false (passed b now) k))
     (λ no. wider set limit _ true true b bs seen.lines (λ gap behind. ap (λ c. are_gaps set (not c) gap behind) no)
@@ -227,8 +222,7 @@ spell : (set : CharSet) (limit : ℕ) (n : ℕ) → Later set limit n
 spell set limit n lines [] le = record { pieces = []; whole = refl; in_order = refl }
 spell set limit zero lines (b ∷ rest) le = absurd (omega arith)
 spell set limit (suc n) lines (b ∷ rest) le =
-    let s = next_spelled set limit lines (b ∷ rest) (omega arith) in
-    let p : Piece = s.piece in
+    let s = next_spelled set limit lines (b ∷ rest) (omega arith) in let p : Piece = s.piece in
     let less : length p.read.rest ≤ n = omega (arith, shorter p.gap p.span p.read.rest b rest s.is.whole s.some) in
     let more = spell set limit n p.read.lines p.read.rest less in
     record {
@@ -244,19 +238,17 @@ record SameParts (gap other rest behind : List ℕ) : Type 0 where
   rests : rest ≡ behind
 
 no_gap_byte : (set : CharSet) (b : ℕ) (gap behind : List ℕ) → are_gaps set false (b ∷ gap) behind ≡ true → begins_gap set b ≡ true
-no_gap_byte set b gap behind fits = by (b == 33) refl
-  where
-    by : (t : Bool) → b == 33 ≡ t → begins_gap set b ≡ true
-    by true t = or_right (is_white set b) (b == 33) t
-    by false t =
-        let white : is_white set b && are_gaps set false gap behind ≡ true =
-        sym (cond-false (b == 33) (are_gaps set true gap behind) (is_white set b && are_gaps set false gap behind) t) ∙ fits in
-        or_left (is_white set b) (b == 33) (and_parts (is_white set b) (are_gaps set false gap behind) white).0
+no_gap_byte set b gap behind fits = by (b == 33) refl where
+  by : (t : Bool) → b == 33 ≡ t → begins_gap set b ≡ true
+  by true t = or_right (is_white set b) (b == 33) t
+  by false t =
+      let white : is_white set b && are_gaps set false gap behind ≡ true =
+      sym (cond-false (b == 33) (are_gaps set true gap behind) (is_white set b && are_gaps set false gap behind) t) ∙ fits in
+      or_left (is_white set b) (b == 33) (and_parts (is_white set b) (are_gaps set false gap behind) white).0
 
 -- a gap ends where it stops
 no_longer_gap : (set : CharSet) (c : Bool) (b : ℕ) (gap rest behind : List ℕ) → are_gaps set c [] rest ≡ true →
-    begins_with (begins_gap set) rest ≡ false
-    → are_gaps set c (b ∷ gap) behind ≡ true → rest ≡ (b ∷ gap) ++ behind → ⊥
+    begins_with (begins_gap set) rest ≡ false → are_gaps set c (b ∷ gap) behind ≡ true → rest ≡ (b ∷ gap) ++ behind → ⊥
 no_longer_gap set true b gap rest behind ends stops fits same = let f : false ≡ true = sym (ap is_nothing same) ∙ ends in cc
 no_longer_gap set false b gap rest behind ends stops fits same =
     let f : true ≡ false = sym (no_gap_byte set b gap behind fits) ∙ sym (ap (begins_with (begins_gap set)) same) ∙ stops in cc
@@ -275,15 +267,14 @@ opens false b = b == 33
 gap_behind : (set : CharSet) (c : Bool) (b : ℕ) (gap behind : List ℕ) → are_gaps set c (b ∷ gap) behind ≡ true →
     are_gaps set (opens c b) gap behind ≡ true
 gap_behind set true b gap behind fits = fits
-gap_behind set false b gap behind fits = by (b == 33) refl
-  where
-    by : (t : Bool) → b == 33 ≡ t → are_gaps set (b == 33) gap behind ≡ true
-    by true t = ap (λ c. are_gaps set c gap behind) t
-        ∙ sym (cond-true (b == 33) (are_gaps set true gap behind) (is_white set b && are_gaps set false gap behind) t) ∙ fits
-    by false t =
-        let white : is_white set b && are_gaps set false gap behind ≡ true =
-        sym (cond-false (b == 33) (are_gaps set true gap behind) (is_white set b && are_gaps set false gap behind) t) ∙ fits in
-        ap (λ c. are_gaps set c gap behind) t ∙ (and_parts (is_white set b) (are_gaps set false gap behind) white).1
+gap_behind set false b gap behind fits = by (b == 33) refl where
+  by : (t : Bool) → b == 33 ≡ t → are_gaps set (b == 33) gap behind ≡ true
+  by true t = ap (λ c. are_gaps set c gap behind) t
+      ∙ sym (cond-true (b == 33) (are_gaps set true gap behind) (is_white set b && are_gaps set false gap behind) t) ∙ fits
+  by false t =
+      let white : is_white set b && are_gaps set false gap behind ≡ true =
+      sym (cond-false (b == 33) (are_gaps set true gap behind) (is_white set b && are_gaps set false gap behind) t) ∙ fits in
+      ap (λ c. are_gaps set c gap behind) t ∙ (and_parts (is_white set b) (are_gaps set false gap behind) white).1
 
 same_parts : (set : CharSet) (c : Bool) (gap other rest behind : List ℕ) → are_gaps set c gap rest ≡ true →
     are_gaps set c other behind ≡ true

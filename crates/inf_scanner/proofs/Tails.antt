@@ -26,8 +26,7 @@ kept_room most b bytes room =
     let all_more : take most (bytes ++ b ∷ []) ≡ bytes ++ b ∷ [] = take_all most (bytes ++ b ∷ []) (omega (arith, more)) in
     let fits : nat_lt (length (take most bytes)) most ≡ true = lt-ltb (length (take most bytes)) most (omega (arith, ap length all)) in
     cond-true (nat_lt (length (take most bytes)) most) (kept_as (take most bytes ++ b ∷ []) (nat_lt most (length bytes)))
-    (kept_as (take most bytes) true) fits
-    ∙ ap (λ (bs : List ℕ). kept_as (bs ++ b ∷ []) (nat_lt most (length bytes))) all
+    (kept_as (take most bytes) true) fits ∙ ap (λ (bs : List ℕ). kept_as (bs ++ b ∷ []) (nat_lt most (length bytes))) all
     ∙ ap (λ c. kept_as (bytes ++ b ∷ []) c) (le-ltb most (length bytes) (omega arith) ∙ sym
     (le-ltb most (length (bytes ++ b ∷ [])) (omega (arith, more))))
     ∙ ap (λ bs. kept_as bs (nat_lt most (length (bytes ++ b ∷ [])))) (sym all_more)
@@ -43,11 +42,10 @@ kept_full most b bytes full =
     ∙ ap (λ bs. kept_as bs (nat_lt most (length (bytes ++ b ∷ [])))) (sym (take-append-le most bytes (b ∷ []) full))
 
 pub kept_more : (most b : ℕ) (bytes : List ℕ) → with_byte most b (kept_of most bytes) ≡ kept_of most (bytes ++ b ∷ [])
-kept_more most b bytes = by (cases_lt (length bytes) most)
-  where
-    by : (length bytes < most) ⊎ (most ≤ length bytes) → with_byte most b (kept_of most bytes) ≡ kept_of most (bytes ++ b ∷ [])
-    by (inl room) = kept_room most b bytes room
-    by (inr full) = kept_full most b bytes full
+kept_more most b bytes = by (cases_lt (length bytes) most) where
+  by : (length bytes < most) ⊎ (most ≤ length bytes) → with_byte most b (kept_of most bytes) ≡ kept_of most (bytes ++ b ∷ [])
+  by (inl room) = kept_room most b bytes room
+  by (inr full) = kept_full most b bytes full
 
 take_none : (most : ℕ) → take {A = ℕ} most [] ≡ []
 take_none zero = refl
@@ -83,14 +81,13 @@ in_quote_with after (x ∷ bytes) b inside no_end no_quote =
 
 pick : (b n : ℕ) (front : List ℕ) (x m : Mark) (later : Option Mark) → mark_bytes x ≡ front ++ n ∷ []
     → (later ≡ Some m → mark_bytes m ≡ front ++ b ∷ []) → cond (b == n) (Some x) later ≡ Some m → mark_bytes m ≡ front ++ b ∷ []
-pick b n front x m later is next = by (b == n) refl
-  where
-    some_is : (x m : Mark) → Some x ≡ Some m → m ≡ x
-    some_is x m e = cc
+pick b n front x m later is next = by (b == n) refl where
+  some_is : (x m : Mark) → Some x ≡ Some m → m ≡ x
+  some_is x m e = cc
 
-    by : (t : Bool) → b == n ≡ t → cond t (Some x) later ≡ Some m → mark_bytes m ≡ front ++ b ∷ []
-    by true t e = ap mark_bytes (some_is x m e) ∙ is ∙ ap (λ k. front ++ k ∷ []) (sym (eqb-true b n t))
-    by false t e = next e
+  by : (t : Bool) → b == n ≡ t → cond t (Some x) later ≡ Some m → mark_bytes m ≡ front ++ b ∷ []
+  by true t e = ap mark_bytes (some_is x m e) ∙ is ∙ ap (λ k. front ++ k ∷ []) (sym (eqb-true b n t))
+  by false t e = next e
 
 no_more : (m : Mark) (bytes : List ℕ) → None ≡ Some m → mark_bytes m ≡ bytes
 no_more m bytes e = cc
@@ -103,8 +100,7 @@ first_bytes b m =
     (pick b 61 [] Mark.Assign m _ refl (pick b 62 [] Mark.Greater m _ refl (pick b 60 [] Mark.Less m _ refl
     (pick b 44 [] Mark.Comma m _ refl
     (pick b 59 [] Mark.Semicolon m _ refl (pick b 58 [] Mark.Colon m _ refl (pick b 40 [] Mark.OpenParenthesis m _ refl
-    (pick b 41 [] Mark.CloseParenthesis m _ refl
-    (pick b 91 [] Mark.OpenBracket m _ refl (pick b 93 [] Mark.CloseBracket m _ refl
+    (pick b 41 [] Mark.CloseParenthesis m _ refl (pick b 91 [] Mark.OpenBracket m _ refl (pick b 93 [] Mark.CloseBracket m _ refl
     (pick b 123 [] Mark.OpenBrace m _ refl (pick b 125 [] Mark.CloseBrace m _ refl
     (pick b 46 [] Mark.Dot m _ refl (pick b 35 [] Mark.Hash m _ refl (pick b 63 [] Mark.Question m _ refl (pick b 64 [] Mark.At m _ refl
     (no_more m (b ∷ [])))))))))))))))))))))))))
@@ -172,8 +168,7 @@ run_tail set limit (b ∷ bs) n seen bytes some all k =
     (λ s. Tail set limit (after set limit s b seen bs) bytes (b ∷ bs) seen.lines seen.first)
     (λ yes. on set limit _ bytes bs seen.lines seen.first b
     (run_tail set limit bs (n || b == 36) (kept 32 b seen) (bytes ++ b ∷ []) (omega (arith, length-append bytes (b ∷ [])))
-    (all_with is_run_byte bytes b all yes) (ap (with_byte 32 b) k ∙ kept_more 32 b bytes)))
-    (λ no. record {
+    (all_with is_run_byte bytes b all yes) (ap (with_byte 32 b) k ∙ kept_more 32 b bytes))) (λ no. record {
       more = [];
       span = bytes;
       bytes = bytes;
@@ -190,26 +185,24 @@ MarkTail set limit bs = (m : Mark) (seen : Sight) (bytes : List ℕ) → bytes �
     (find set limit (State.Mark m) seen bs) bytes bs seen.lines seen.first
 
 mark_step : (set : CharSet) (limit : ℕ) (bs : List ℕ) (b : ℕ) → MarkTail set limit bs → MarkTail set limit (b ∷ bs)
-mark_step set limit bs b later m seen bytes is k = by (longer_mark m b) refl
-  where
-    by : (o : Option Mark) → longer_mark m b ≡ o → Tail set limit
-        (after set limit (elim o [ Some x ↦ ByteStep.Keep (State.Mark x) | None ↦ ByteStep.Behind (Ending.Mark m) ]) b seen bs)
-        bytes (b ∷ bs)
-        seen.lines seen.first
-    by (Some x) e = on set limit _ bytes bs seen.lines seen.first b
-        (later x (kept 32 b seen) (bytes ++ b ∷ []) (ap (λ bs. bs ++ b ∷ []) is ∙ sym (longer_bytes m b x e))
-        (ap (with_byte 32 b) k ∙ kept_more 32 b bytes))
-    by None e = record {
-      more = [];
-      span = bytes;
-      bytes = bytes;
-      whole = refl;
-      joins = sym (append-nil bytes);
-      spans = (refl, is, e);
-      keeps = k;
-      passes = refl;
-      begins = refl;
-    }
+mark_step set limit bs b later m seen bytes is k = by (longer_mark m b) refl where
+  by : (o : Option Mark) → longer_mark m b ≡ o → Tail set limit
+      (after set limit (elim o [ Some x ↦ ByteStep.Keep (State.Mark x) | None ↦ ByteStep.Behind (Ending.Mark m) ]) b seen bs)
+      bytes (b ∷ bs) seen.lines seen.first
+  by (Some x) e = on set limit _ bytes bs seen.lines seen.first b
+      (later x (kept 32 b seen) (bytes ++ b ∷ []) (ap (λ bs. bs ++ b ∷ []) is ∙ sym (longer_bytes m b x e))
+      (ap (with_byte 32 b) k ∙ kept_more 32 b bytes))
+  by None e = record {
+    more = [];
+    span = bytes;
+    bytes = bytes;
+    whole = refl;
+    joins = sym (append-nil bytes);
+    spans = (refl, is, e);
+    keeps = k;
+    passes = refl;
+    begins = refl;
+  }
 
 pub mark_tail : (set : CharSet) (limit : ℕ) (bs : List ℕ) → MarkTail set limit bs
 mark_tail set limit [] m seen bytes is k = record {
@@ -239,8 +232,7 @@ text_tail set limit [] seen bytes none k = record {
   begins = refl;
 }
 text_tail set limit (b ∷ bs) seen bytes none k = cond_both (b == 34) (ByteStep.Close Ending.Text) (ByteStep.Keep State.Text)
-    (λ s. Tail set limit (after set limit s b seen bs) (34 ∷ bytes) (b ∷ bs) seen.lines seen.first)
-    (λ yes. record {
+    (λ s. Tail set limit (after set limit s b seen bs) (34 ∷ bytes) (b ∷ bs) seen.lines seen.first) (λ yes. record {
       more = b ∷ [];
       span = 34 ∷ (bytes ++ 34 ∷ []);
       bytes = bytes;
@@ -250,8 +242,7 @@ text_tail set limit (b ∷ bs) seen bytes none k = cond_both (b == 34) (ByteStep
       keeps = k;
       passes = refl;
       begins = refl;
-    })
-    (λ no. on set limit _ (34 ∷ bytes) bs seen.lines seen.first b
+    }) (λ no. on set limit _ (34 ∷ bytes) bs seen.lines seen.first b
     (text_tail set limit bs (kept limit b seen) (bytes ++ b ∷ []) (all_with (λ x. not (x == 34)) bytes b none (not_from_false (b == 34) no))
     (ap (with_byte limit b) k ∙ kept_more limit b bytes)))
 
@@ -271,8 +262,7 @@ quote_tail set limit [] a seen bytes inside at k = record {
 }
 quote_tail set limit (b ∷ bs) a seen bytes inside at k = cond_both (is_line_end b) (ByteStep.Behind Ending.Unclosed)
     (cond (b == 39 && not a) (ByteStep.Close Ending.Quote) (ByteStep.Keep (State.Quote (b == 64))))
-    (λ s. Tail set limit (after set limit s b seen bs) (39 ∷ bytes) (b ∷ bs) seen.lines seen.first)
-    (λ yes. record {
+    (λ s. Tail set limit (after set limit s b seen bs) (39 ∷ bytes) (b ∷ bs) seen.lines seen.first) (λ yes. record {
       more = [];
       span = 39 ∷ bytes;
       bytes = bytes;
@@ -282,8 +272,7 @@ quote_tail set limit (b ∷ bs) a seen bytes inside at k = cond_both (is_line_en
       keeps = k;
       passes = refl;
       begins = refl;
-    })
-    (λ no_end. cond_both (b == 39 && not a) (ByteStep.Close Ending.Quote) (ByteStep.Keep (State.Quote (b == 64)))
+    }) (λ no_end. cond_both (b == 39 && not a) (ByteStep.Close Ending.Quote) (ByteStep.Keep (State.Quote (b == 64)))
     (λ s. Tail set limit (after set limit s b seen bs) (39 ∷ bytes) (b ∷ bs) seen.lines seen.first)
     (λ yes. let parts = and_parts (b == 39) (not a) yes in record {
       more = b ∷ [];
@@ -295,8 +284,7 @@ quote_tail set limit (b ∷ bs) a seen bytes inside at k = cond_both (is_line_en
       keeps = k;
       passes = refl;
       begins = refl;
-    })
-    (λ no. on set limit _ (39 ∷ bytes) bs seen.lines seen.first b
+    }) (λ no. on set limit _ (39 ∷ bytes) bs seen.lines seen.first b
     (quote_tail set limit bs (b == 64) (kept limit b seen) (bytes ++ b ∷ [])
     (in_quote_with false bytes b inside no_end (ap (λ x. b == 39 && not x) at ∙ no)) (ends_with false bytes b)
     (ap (with_byte limit b) k ∙ kept_more limit b bytes))))

@@ -5,12 +5,11 @@ use Rattle.inf_scanner.specs.{declared.scanner.State.State, declared.scanner.Tur
 use Rattle.inf_scanner.specs.Scanning.{Sight, Found, turn, find}
 
 abbrev pub after_turn : CharSet → ℕ → Turn × Sight → ℕ → List ℕ → Found
-after_turn set limit t b bs =
-    elim t.0 [
-      | Turn.On next ↦ find set limit next t.1 bs
-      | Turn.Last e ↦ record { ending = e; seen = t.1; rest = bs }
-      | Turn.Behind e ↦ record { ending = e; seen = t.1; rest = b ∷ bs }
-    ]
+after_turn set limit t b bs = elim t.0 [
+  | Turn.On next ↦ find set limit next t.1 bs
+  | Turn.Last e ↦ record { ending = e; seen = t.1; rest = bs }
+  | Turn.Behind e ↦ record { ending = e; seen = t.1; rest = b ∷ bs }
+]
 
 find_turn : (set : CharSet) (limit : ℕ) (s : State) (seen : Sight) (bytes : List ℕ) (i : ℕ) (rest : List ℕ) (t : Turn × Sight) →
     i < length bytes

@@ -121,8 +121,7 @@ span_end set Ending.Quote bytes span behind spans is = cc
 pub tokens_take_bytes : TokensTakeBytes
 tokens_take_bytes set limit lines [] = record { one = inl refl; end = λ _. refl }
 tokens_take_bytes set limit lines (b ∷ bytes) =
-    let s = next_spelled set limit lines (b ∷ bytes) (omega arith) in
-    let p : Piece = s.piece in
+    let s = next_spelled set limit lines (b ∷ bytes) (omega arith) in let p : Piece = s.piece in
     let less : length p.read.rest ≤ length bytes = shorter p.gap p.span p.read.rest b bytes s.is.whole s.some in
     let same : length p.read.rest ≡ length (next_token set limit lines (b ∷ bytes)).rest = ap (λ (r : Read). length r.rest) s.is.is_read in
     record {
@@ -137,8 +136,7 @@ nothing_is_the_end set limit lines = refl
 pub runs_are_short : RunsAreShort
 runs_are_short set limit lines [] is = omega arith
 runs_are_short set limit lines (b ∷ bytes) is =
-    let s = next_spelled set limit lines (b ∷ bytes) (omega arith) in
-    let p : Piece = s.piece in
+    let s = next_spelled set limit lines (b ∷ bytes) (omega arith) in let p : Piece = s.piece in
     let most : most_of limit s.is.ending ≡ 32 =
     run_only set limit s.is.ending p.read.kept (ap is_run (sym s.is.is_told ∙ ap (λ (r : Read). r.kind) s.is.is_read) ∙ is) in
     let kept : length (next_token set limit lines (b ∷ bytes)).kept.bytes ≡ length p.read.kept.bytes =

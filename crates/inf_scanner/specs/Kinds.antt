@@ -10,20 +10,17 @@ use Rattle.inf_scanner.specs.{declared.tokens.TokenKind.TokenKind}
 
 -- the value of a digit in base 2, 10 or 16
 abbrev pub digit_of : ℕ → ℕ → Option ℕ
-digit_of base b =
-    if b == 48 || b == 49 then Some (b - 48) else
-    if (nat_le 50 b && nat_le b 57) && nat_lt 2 base then Some (b - 48) else
+digit_of base b = if b == 48 || b == 49 then Some (b - 48) else if (nat_le 50 b && nat_le b 57) && nat_lt 2 base then Some (b - 48) else
     if (nat_le 97 b && nat_le b 102) && nat_lt 10 base then Some (b - 97 + 10) else
     if (nat_le 65 b && nat_le b 70) && nat_lt 10 base then Some (b - 65 + 10) else None
 
 -- the number that digits write behind the number `high`, up to 65535
 abbrev pub value_from : ℕ → ℕ → List ℕ → Option ℕ
 value_from base high [] = Some high
-value_from base high (b ∷ bs) =
-    elim (digit_of base b) [
-      | None ↦ None
-      | Some d ↦ if nat_lt 65535 (high * base + d) then None else value_from base (high * base + d) bs
-    ]
+value_from base high (b ∷ bs) = elim (digit_of base b) [
+  | None ↦ None
+  | Some d ↦ if nat_lt 65535 (high * base + d) then None else value_from base (high * base + d) bs
+]
 
 abbrev pub value_of : ℕ → List ℕ → Option ℕ
 value_of base [] = None
@@ -85,11 +82,9 @@ front n bytes = take (length bytes - n) bytes
 
 -- the kind of a token with these bytes between single quotes: the sign `//` or `//p` at the end makes it a word
 abbrev pub quote_kind : CharSet → List ℕ → TokenKind
-quote_kind set bytes =
-    if length bytes == 0 then TokenKind.Bad BadToken.EmptyQuote else
+quote_kind set bytes = if length bytes == 0 then TokenKind.Bad BadToken.EmptyQuote else
     if bytes_eq (last 3 bytes) (47 ∷ 47 ∷ 112 ∷ []) then signed_kind set Sign.Plural (front 3 bytes) else
-    if bytes_eq (last 2 bytes) (47 ∷ 47 ∷ []) then signed_kind set Sign.Single (front 2 bytes) else
-    signed_kind set Sign.None bytes
+    if bytes_eq (last 2 bytes) (47 ∷ 47 ∷ []) then signed_kind set Sign.Single (front 2 bytes) else signed_kind set Sign.None bytes
 
 -- the kind of a token, by its ending and the bytes that are kept of it
 abbrev pub kind_of : CharSet → Ending → Kept → TokenKind

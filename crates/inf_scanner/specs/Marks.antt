@@ -4,31 +4,14 @@ use Rattle.inf_scanner.specs.declared.tokens.Mark.{Mark}
 
 -- the mark that a single byte is
 abbrev pub first_mark : ℕ → Option Mark
-first_mark b =
-    if b == 45 then Some Mark.Minus else
-    if b == 43 then Some Mark.Plus else
-    if b == 42 then Some Mark.Times else
-    if b == 47 then Some Mark.Divide else
-    if b == 37 then Some Mark.Remainder else
-    if b == 38 then Some Mark.BitAnd else
-    if b == 124 then Some Mark.BitOr else
-    if b == 126 then Some Mark.BitNot else
-    if b == 61 then Some Mark.Assign else
-    if b == 62 then Some Mark.Greater else
-    if b == 60 then Some Mark.Less else
-    if b == 44 then Some Mark.Comma else
-    if b == 59 then Some Mark.Semicolon else
-    if b == 58 then Some Mark.Colon else
-    if b == 40 then Some Mark.OpenParenthesis else
-    if b == 41 then Some Mark.CloseParenthesis else
-    if b == 91 then Some Mark.OpenBracket else
-    if b == 93 then Some Mark.CloseBracket else
-    if b == 123 then Some Mark.OpenBrace else
-    if b == 125 then Some Mark.CloseBrace else
-    if b == 46 then Some Mark.Dot else
-    if b == 35 then Some Mark.Hash else
-    if b == 63 then Some Mark.Question else
-    if b == 64 then Some Mark.At else None
+first_mark b = if b == 45 then Some Mark.Minus else if b == 43 then Some Mark.Plus else if b == 42 then Some Mark.Times else
+    if b == 47 then Some Mark.Divide else if b == 37 then Some Mark.Remainder else if b == 38 then Some Mark.BitAnd else
+    if b == 124 then Some Mark.BitOr else if b == 126 then Some Mark.BitNot else if b == 61 then Some Mark.Assign else
+    if b == 62 then Some Mark.Greater else if b == 60 then Some Mark.Less else if b == 44 then Some Mark.Comma else
+    if b == 59 then Some Mark.Semicolon else if b == 58 then Some Mark.Colon else if b == 40 then Some Mark.OpenParenthesis else
+    if b == 41 then Some Mark.CloseParenthesis else if b == 91 then Some Mark.OpenBracket else if b == 93 then Some Mark.CloseBracket else
+    if b == 123 then Some Mark.OpenBrace else if b == 125 then Some Mark.CloseBrace else if b == 46 then Some Mark.Dot else
+    if b == 35 then Some Mark.Hash else if b == 63 then Some Mark.Question else if b == 64 then Some Mark.At else None
 
 -- the mark that a mark with one more byte is
 abbrev pub longer_mark : Mark → ℕ → Option Mark

@@ -32,11 +32,8 @@ begun lines = record { first = lines.line; kept = nothing_kept; lines = lines }
 
 -- the step of the first byte of a token, or of a byte before it
 abbrev pub begin : CharSet → ℕ → ByteStep
-begin set b =
-    if is_white set b then ByteStep.Skip State.Gap else
-    if is_run_byte b then ByteStep.Keep (State.Run (begins_number b)) else
-    if b == 33 then ByteStep.Skip State.Comment else
-    if b == 34 then ByteStep.Skip State.Text else
+begin set b = if is_white set b then ByteStep.Skip State.Gap else if is_run_byte b then ByteStep.Keep (State.Run (begins_number b)) else
+    if b == 33 then ByteStep.Skip State.Comment else if b == 34 then ByteStep.Skip State.Text else
     if b == 39 then ByteStep.Skip (State.Quote false) else
     elim (first_mark b) [ Some m ↦ ByteStep.Keep (State.Mark m) | None ↦ ByteStep.Close Ending.Unfit ]
 
@@ -49,8 +46,7 @@ step_of set (State.Run is_number) b =
 step_of set (State.Mark m) b =
     elim (longer_mark m b) [ Some longer ↦ ByteStep.Keep (State.Mark longer) | None ↦ ByteStep.Behind (Ending.Mark m) ]
 step_of set State.Text b = if b == 34 then ByteStep.Close Ending.Text else ByteStep.Keep State.Text
-step_of set (State.Quote after_at) b =
-    if is_line_end b then ByteStep.Behind Ending.Unclosed else
+step_of set (State.Quote after_at) b = if is_line_end b then ByteStep.Behind Ending.Unclosed else
     if b == 39 && not after_at then ByteStep.Close Ending.Quote else ByteStep.Keep (State.Quote (b == 64))
 
 -- the ending of a token at the end of the source

@@ -53,8 +53,7 @@ Spans set (Ending.Mark m) bytes span behind = (span ≡ bytes) × (bytes ≡ mar
 Spans set Ending.Text bytes span behind = (span ≡ 34 ∷ (bytes ++ 34 ∷ [])) × (list_all (λ b. not (b == 34)) bytes ≡ true)
 Spans set Ending.Quote bytes span behind =
     (span ≡ 39 ∷ (bytes ++ 39 ∷ [])) × (is_in_quote false bytes ≡ true) × (ends_at false bytes ≡ false)
-Spans set Ending.Unclosed bytes span behind =
-    ((span ≡ 34 ∷ bytes) × (list_all (λ b. not (b == 34)) bytes ≡ true) × (behind ≡ []))
+Spans set Ending.Unclosed bytes span behind = ((span ≡ 34 ∷ bytes) × (list_all (λ b. not (b == 34)) bytes ≡ true) × (behind ≡ []))
     ⊎ ((span ≡ 39 ∷ bytes) × (is_in_quote false bytes ≡ true) × (is_nothing behind || begins_with is_line_end behind ≡ true))
 Spans set Ending.Unfit bytes span behind = (length span ≡ 1) × (bytes ≡ [])
 Spans set Ending.End bytes span behind = (span ≡ []) × (bytes ≡ []) × (behind ≡ [])
@@ -78,8 +77,7 @@ past_all (b ∷ bs) lines = past_all bs (past b lines)
 -- the number of lines that end in these bytes: at each carriage return, and at each line feed that is not right behind one
 abbrev pub lines_ended : Bool → List ℕ → ℕ
 lines_ended after_return [] = 0
-lines_ended after_return (b ∷ bs) =
-    (if b == 13 || (b == 10 && not after_return) then 1 else 0) + lines_ended (b == 13) bs
+lines_ended after_return (b ∷ bs) = (if b == 13 || (b == 10 && not after_return) then 1 else 0) + lines_ended (b == 13) bs
 
 -- A token with the gap before it and its span.
 pub record Piece : Type 0 where
@@ -105,8 +103,7 @@ pub record IsSpelled (set : CharSet) (limit : ℕ) (lines : Lines) (rest : List 
 -- pieces, one behind the other, up to the end of the bytes
 abbrev pub AreSpelled : CharSet → ℕ → Lines → List ℕ → List Piece → Type 0
 AreSpelled set limit lines rest [] = rest ≡ []
-AreSpelled set limit lines rest (p ∷ pieces) =
-    IsSpelled set limit lines rest p × AreSpelled set limit p.read.lines p.read.rest pieces
+AreSpelled set limit lines rest (p ∷ pieces) = IsSpelled set limit lines rest p × AreSpelled set limit p.read.lines p.read.rest pieces
 
 abbrev pub joined : List Piece → List ℕ
 joined [] = []

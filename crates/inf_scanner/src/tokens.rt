@@ -4,7 +4,7 @@ ghost use Rattle.std.specs.Prelude.{◌≡◌};
 use inf_text::Zscii;
 
 /// A mark of the language.
-#[derive(Clone, Copy)]
+#[derive(Clone, Copy, Debug, PartialEq, Eq)]
 pub enum Mark {
     /// The mark `->`.
     Arrow,
@@ -89,7 +89,7 @@ pub enum Mark {
 }
 
 /// The fault of a bad token.
-#[derive(Clone, Copy)]
+#[derive(Clone, Copy, Debug, PartialEq, Eq)]
 pub enum BadToken {
     /// A byte that begins no token.
     Unfit,
@@ -112,7 +112,7 @@ pub enum BadToken {
 }
 
 /// A word in single quotes, as the dictionary has it.
-#[derive(Clone, Copy)]
+#[derive(Clone, Copy, Debug, PartialEq, Eq)]
 pub struct DictionaryWord {
     /// The nine Z-characters of the word (Z-Machine Standard 1.1, section 13.3).
     pub text: [u8; 6],
@@ -121,7 +121,7 @@ pub struct DictionaryWord {
 }
 
 /// The kind of a token, with its value.
-#[derive(Clone, Copy)]
+#[derive(Clone, Copy, Debug, PartialEq, Eq)]
 pub enum TokenKind {
     Name,
     Number(u16),

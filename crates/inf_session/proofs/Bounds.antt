@@ -38,8 +38,7 @@ kind_within (TokenKind.Bad BadToken.TooLong) bytes most few = few refl
 kind_within TokenKind.End bytes most few = omega arith
 
 pub quoted_within : (site : Site) (j : Filtered) (t : SourceToken) (quoted most : ℕ) →
-    (is_quoted_kind t.kind ≡ true → length t.bytes ≤ most) → quoted ≤ most
-    → quoted_behind site j t quoted ≤ most
+    (is_quoted_kind t.kind ≡ true → length t.bytes ≤ most) → quoted ≤ most → quoted_behind site j t quoted ≤ most
 quoted_within site j t quoted most few before =
     let longer = cond (nat_lt quoted (quoted_bytes t)) (quoted_bytes t) quoted in
     of_both (λ n. n ≤ most) (site.is_quiet || is_none j.token) quoted longer (λ _. before)
@@ -78,10 +77,8 @@ none_then false limit others e = (refl, e)
 
 first_fits : (o : Choices) (names : FileNames) → (begun_with o names).work.report.counts.is_over ≡ false → HasObjects o.settings
 first_fits o names going =
-    let objects = number_of Setting.Objects o.settings in
-    let bytes = number_of Setting.PropertyTables o.settings in
-    let refs = number_of Setting.References o.settings in
-    let low = number_of Setting.LowStrings o.settings in
+    let objects = number_of Setting.Objects o.settings in let bytes = number_of Setting.PropertyTables o.settings in
+    let refs = number_of Setting.References o.settings in let low = number_of Setting.LowStrings o.settings in
     let none = none_told (tables_full o.settings) names (warns o.letters) going in
     let behind_low = cond (nat_lt refs 4) (Some Setting.References) None in
     let behind_bytes = cond (nat_lt low 2) (Some Setting.LowStrings) behind_low in

@@ -60,8 +60,7 @@ module _ (sources : Sources) (o : Choices) where
   answered_told Nothing s = refl
 
   carried_out_told : (s : State) → SameTold s (carried_out sources o s)
-  carried_out_told s =
-      of_both (SameTold s) s.work.report.counts.is_over s _ (λ _. refl)
+  carried_out_told s = of_both (SameTold s) s.work.report.counts.is_over s _ (λ _. refl)
       (λ _. of_both (SameTold s) (is_mode_ended s.reading.mode) (left s) (answered s.work.asked sources o (asked_nothing s))
       (λ _. left_by_told s.nesting.waiting (file_closed s)) (λ _. answered_told s.work.asked (asked_nothing s)))
 
@@ -76,11 +75,10 @@ apart (suc m) (suc n) = elim (apart m n) as (λ _. ((k : ℕ) × (suc n ≡ suc 
 
 -- where no part has ended, reading has not ended
 pub still_going : (s : State) → is_parted s ≡ false → has_ended s ≡ false
-still_going s e = by (has_ended s) _ e
-  where
-    by : (a b : Bool) → (a || b) ≡ false → a ≡ false
-    by true b e = cc
-    by false b e = refl
+still_going s e = by (has_ended s) _ e where
+  by : (a b : Bool) → (a || b) ≡ false → a ≡ false
+  by true b e = cc
+  by false b e = refl
 
 module _ (limits : Limits) (sources : Sources) (o : Choices) where
   abbrev next : State → State
@@ -124,13 +122,11 @@ module _ (limits : Limits) (sources : Sources) (o : Choices) where
   pub run_more : (n : ℕ) (s : State) → has_ended (run limits sources o n s) ≡ false →
       run limits sources o (suc n) s ≡ turn limits sources o (run limits sources o n s)
   run_more n s going =
-      let one : suc n ≡ n + 1 = omega arith in
-      ap (λ k. ran k s) one ∙ run_sum n 1 s ∙ run_going zero (ran n s) going
+      let one : suc n ≡ n + 1 = omega arith in ap (λ k. ran k s) one ∙ run_sum n 1 s ∙ run_going zero (ran n s) going
 
   pub run_begins : (n : ℕ) (s : State) → IsFront s.told (run limits sources o n s).told
   run_begins zero s = front_same s.told
-  run_begins (suc n) s =
-      of_both (λ t. IsFront s.told t.told) (has_ended s) s (ran n (next s)) (λ _. front_same s.told)
+  run_begins (suc n) s = of_both (λ t. IsFront s.told t.told) (has_ended s) s (ran n (next s)) (λ _. front_same s.told)
       (λ _. front_then (turn_begins s) (run_begins n (next s)))
 
   -- behind an end nothing changes
@@ -159,35 +155,29 @@ module _ (limits : Limits) (sources : Sources) (o : Choices) where
 
   part_by : (n : ℕ) (s : State) (b : Bool) → has_ended s ≡ false → is_parted (next s) ≡ b
       → part limits sources o (suc n) s ≡ cond b (next s) (part limits sources o n (next s))
-  part_by n s b going e =
-      ap (λ x. cond x s (cond (is_parted (next s)) (next s) (parts n (next s)))) going
+  part_by n s b going e = ap (λ x. cond x s (cond (is_parted (next s)) (next s) (parts n (next s)))) going
       ∙ ap (λ x. cond x (next s) (parts n (next s))) e
 
   -- a part of one turn
   pub part_one : (s : State) → has_ended s ≡ false → part limits sources o (suc zero) s ≡ turn limits sources o s
-  part_one s going = by (is_parted (next s)) refl
-    where
-      by : (b : Bool) → is_parted (next s) ≡ b → parts (suc zero) s ≡ next s
-      by true e = part_by zero s true going e
-      by false e = part_by zero s false going e
+  part_one s going = by (is_parted (next s)) refl where
+    by : (b : Bool) → is_parted (next s) ≡ b → parts (suc zero) s ≡ next s
+    by true e = part_by zero s true going e
+    by false e = part_by zero s false going e
 
   -- one turn more in a part that has not ended
   pub part_more : (n : ℕ) (s : State) → has_ended s ≡ false → is_parted (part limits sources o (suc n) s) ≡ false
       → part limits sources o (suc (suc n)) s ≡ turn limits sources o (part limits sources o (suc n) s)
   part_more zero s going still =
-      let one = part_one s going in
-      let open_still : is_parted (next s) ≡ false = ap is_parted (sym one) ∙ still in
+      let one = part_one s going in let open_still : is_parted (next s) ≡ false = ap is_parted (sym one) ∙ still in
       part_by (suc zero) s false going open_still ∙ part_one (next s) (still_going (next s) open_still) ∙ ap next (sym one)
-  part_more (suc n) s going still = by (is_parted (next s)) refl (part_more n (next s))
-    where
-      by : (b : Bool) → is_parted (next s) ≡ b
-          → (has_ended (next s) ≡ false → is_parted (parts (suc n) (next s)) ≡ false
-          → parts (suc (suc n)) (next s) ≡ next (parts (suc n) (next s)))
-          → parts (suc (suc (suc n))) s ≡ next (parts (suc (suc n)) s)
-      by true e later = let never : true ≡ false = sym (ap is_parted (part_by (suc n) s true going e) ∙ e) ∙ still in cc
-      by false e later =
-          let on = part_by (suc n) s false going e in
-          part_by (suc (suc n)) s false going e ∙ later (still_going (next s) e) (ap is_parted (sym on) ∙ still) ∙ ap next (sym on)
+  part_more (suc n) s going still = by (is_parted (next s)) refl (part_more n (next s)) where
+    by : (b : Bool) → is_parted (next s) ≡ b → (has_ended (next s) ≡ false → is_parted (parts (suc n) (next s)) ≡ false
+        → parts (suc (suc n)) (next s) ≡ next (parts (suc n) (next s))) → parts (suc (suc (suc n))) s ≡ next (parts (suc (suc n)) s)
+    by true e later = let never : true ≡ false = sym (ap is_parted (part_by (suc n) s true going e) ∙ e) ∙ still in cc
+    by false e later =
+        let on = part_by (suc n) s false going e in
+        part_by (suc (suc n)) s false going e ∙ later (still_going (next s) e) (ap is_parted (sym on) ∙ still) ∙ ap next (sym on)
 
 -- Lemmas about the lines that a sink took
 
@@ -209,8 +199,7 @@ writes_on {step = step} {now = now} {old = old} {between = between} {new = new} 
 
 -- a step by another name
 pub writes_as : {f g : State → State} {was now : List ℕ → State} {old new : Option (List ℕ)}
-    → ((told : List ℕ) → f (was told) ≡ g (was told))
-    → Writes f was now old new → Writes g was now old new
+    → ((told : List ℕ) → f (was told) ≡ g (was told)) → Writes f was now old new → Writes g was now old new
 writes_as same w = record { lines = w.lines; takes = w.takes; same = λ told. w.same told ∙ same told }
 
 pub cuts_as : {f g : State → State} {was : List ℕ → State} {old new : Option (List ℕ)} → ((told : List ℕ) → f (was told) ≡ g (was told))
@@ -227,8 +216,7 @@ pub cuts_nothing : {step : State → State} {was : List ℕ → State} (old : Op
 cuts_nothing {step = step} {was = was} old told_is begins = record {
   front = [];
   takes = takes_none old;
-  begins = λ told.
-      subst (λ l. IsFront l (step (was told)).told) (told_is told ∙ sym (append-nil told)) (begins (was told));
+  begins = λ told. subst (λ l. IsFront l (step (was told)).told) (told_is told ∙ sym (append-nil told)) (begins (was told));
 }
 
 -- a front of the lines was written
@@ -250,20 +238,17 @@ pub cuts_on : {f g step : State → State} {was mid : List ℕ → State} {old b
 cuts_on {g = g} {step = step} {was = was} {old = old} {between = between} {new = new} more a b = record {
   front = a.lines ++ b.front;
   takes = takes_then old between new a.lines b.front a.takes b.takes;
-  begins = λ told.
-      subst (λ l. IsFront l (g (was told)).told) (append_assoc told a.lines b.front)
+  begins = λ told. subst (λ l. IsFront l (g (was told)).told) (append_assoc told a.lines b.front)
       (subst (λ (t : State). IsFront ((told ++ a.lines) ++ b.front) t.told) (ap step (a.same told) ∙ sym (more told))
       (b.begins (told ++ a.lines)));
 }
 
 -- the sources that a step opens, behind another
 pub opens_on : (g step : State → State) {f : State → State} {was mid : List ℕ → State} {old between : Option (List ℕ)}
-    {openings : List (List ℕ)}
-    → ((told : List ℕ) → g (was told) ≡ step (f (was told)))
+    {openings : List (List ℕ)} → ((told : List ℕ) → g (was told) ≡ step (f (was told)))
     → Writes f was mid old between → ((told : List ℕ) → openings ≡ (step (mid told)).nesting.openings)
     → (told : List ℕ) → openings ≡ (g (was told)).nesting.openings
-opens_on g step more w h told =
-    h (told ++ w.lines) ∙ ap (λ (s : State). s.nesting.openings) (ap step (w.same told) ∙ sym (more told))
+opens_on g step more w h told = h (told ++ w.lines) ∙ ap (λ (s : State). s.nesting.openings) (ap step (w.same told) ∙ sym (more told))
 
 -- all lines were written of one step behind another
 pub wrote_on : {f g step : State → State} {was mid : List ℕ → State} {old between new : Option (List ℕ)}
@@ -272,8 +257,7 @@ pub wrote_on : {f g step : State → State} {was mid : List ℕ → State} {old 
 wrote_on {step = step} {old = old} {between = between} {new = new} more w all = record {
   lines = w.lines ++ all.lines;
   takes = takes_then old between new w.lines all.lines w.takes all.takes;
-  same = λ told.
-      ap (λ (s : State). s.told) (more told ∙ ap step (sym (w.same told))) ∙ all.same (told ++ w.lines)
+  same = λ told. ap (λ (s : State). s.told) (more told ∙ ap step (sym (w.same told))) ∙ all.same (told ++ w.lines)
       ∙ append_assoc told w.lines all.lines;
 }
 
@@ -299,8 +283,7 @@ stops_at_more later h = record {
 }
 
 pub stops_more : (limits : Limits) (failed more : Type 0) (sources : Sources) (o : Choices) (s : State) (start now : Openings)
-    (files : Open) (name : List ℕ)
-    → (failed → more)
+    (files : Open) (name : List ℕ) → (failed → more)
     → StopsFor limits failed sources o s start now files name → StopsFor limits more sources o s start now files name
 stops_more limits failed more sources o s start now files name later (inl h) = inl (record {
   cause = elim h.cause as (λ _. more ⊎ (16777216 < files.lexer.window.given)) [ inl rose ↦ inl (later rose) | inr far ↦ inr far ];

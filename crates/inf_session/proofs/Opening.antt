@@ -42,18 +42,13 @@ included_opens sources o unit text set limit conditionals is_system (OpensNone w
 
 -- an inclusion was tried
 pub tried : {B : Type 0} (sources : Sources) (o : Choices) (unit : Place) (text : List ℕ) (set : CharSet) (limit : ℕ)
-    (conditionals : List Conditional) (is_system : Bool) (start old new : Openings)
-    (before : Session B) (after : Open)
-    → nesting sources start new after
-    ≡ nested_by set limit sources conditionals is_system
-    (inclusion sources o.directories text (nesting sources start old before.open_files))
-    (nesting sources start old before.open_files)
+    (conditionals : List Conditional) (is_system : Bool) (start old new : Openings) (before : Session B) (after : Open)
+    → nesting sources start new after ≡ nested_by set limit sources conditionals is_system
+    (inclusion sources o.directories text (nesting sources start old before.open_files)) (nesting sources start old before.open_files)
     → OpensWithin (included sources o unit text) (state sources start old before) (opened_since start new)
-tried sources o unit text set limit conditionals is_system start old new before after e =
-    inr (λ told. ap (λ (n : Nesting). n.openings) e
+tried sources o unit text set limit conditionals is_system start old new before after e = inr (λ told. ap (λ (n : Nesting). n.openings) e
     ∙ included_opens sources o unit text set limit conditionals is_system
-    (inclusion sources o.directories text (nesting sources start old before.open_files))
-    (state sources start old before told))
+    (inclusion sources o.directories text (nesting sources start old before.open_files)) (state sources start old before told))
 
 -- Lemmas about what holds of a result that is known
 
@@ -103,8 +98,7 @@ entered_by sources o unit text set limit among is_system now_system s n c (Opens
       nesting = with_opened s.nesting.cursor.set (most_quoted o) sources s.conditions.among s.work.is_system name s.nesting;
       conditions = x;
       work = record s.work { is_system = now_system };
-    }) f
-    ∙ ap (λ x. record s {
+    }) f ∙ ap (λ x. record s {
       nesting = with_opened s.nesting.cursor.set (most_quoted o) sources s.conditions.among s.work.is_system name s.nesting;
       conditions = with_among [] s.conditions;
       work = record s.work { is_system = x };
@@ -113,8 +107,7 @@ entered_by sources o unit text set limit among is_system now_system s n c (Opens
     absurd (never (ap OpensNone (sym is)))
 
 pub entered : (sources : Sources) (o : Choices) (unit : Place) (text : List ℕ) (set : CharSet) (limit : ℕ) (among : List Conditional)
-    (is_system now_system : Bool) (s : State) (n : Nesting) (c : Conditions)
-    → let i = inclusion sources o.directories text s.nesting in
+    (is_system now_system : Bool) (s : State) (n : Nesting) (c : Conditions) → let i = inclusion sources o.directories text s.nesting in
     Included.Entered ≡ answer_of i → n ≡ nested_by set limit sources among is_system i s.nesting
     → set ≡ s.nesting.cursor.set → limit ≡ most_quoted o → among ≡ s.conditions.among → is_system ≡ s.work.is_system
     → c ≡ with_among [] s.conditions → now_system ≡ false
@@ -136,8 +129,7 @@ pub not_entered : {B : Type 0} (sources : Sources) (o : Choices) (unit : Place) 
     ≡ included sources o unit text s
 not_entered sources o unit text set limit conditionals was_system is_system start old new before after why c r told is never opened same
     marked told_is =
-    let was = nesting sources start old before.open_files in
-    let i = inclusion sources o.directories text was in
+    let was = nesting sources start old before.open_files in let i = inclusion sources o.directories text was in
     let s : State = state sources start old before told in
     ap (λ (n : Nesting). record s { nesting = n; conditions = c; work = record s.work { report = r; is_system = is_system } })
     (opened ∙ none_kept set limit sources conditionals was_system i was why is never)
@@ -197,8 +189,7 @@ module _ {R B : Type 0} {f : Files R} {a b : R} {x z : Session B} {failed : Type
     unread = read_more e (λ name never told. absurd (never told)) h.unread;
   }
 
-  pub including_stops : {y : Session B} {text : List ℕ} {unit : Place}
-      → is_fatal x ≡ false → is_mode_ended x.progress.reader.mode ≡ false
+  pub including_stops : {y : Session B} {text : List ℕ} {unit : Place} → is_fatal x ≡ false → is_mode_ended x.progress.reader.mode ≡ false
       → (state sources start (f.openings a) x []).work.asked ≡ Include text unit
       → ((told : List ℕ) → state sources start (f.openings a) y told ≡ asked_nothing (state sources start (f.openings a) x told))
       → Stops f (λ s c. included s c unit text) (in_inclusion text) a b y z failed sources o start e
@@ -225,8 +216,7 @@ module _ {R B : Type 0} {f : Files R} {a b : R} {x z : Session B} {failed : Type
 -- Lemmas about the state behind the request
 
 pub rested_nesting : (s : State) → (rested s).nesting ≡ s.nesting
-rested_nesting s =
-    of_both (λ (t : State). t.nesting ≡ s.nesting) (has_ended s) s (cond (is_resting s) (piece_closed s) s) (λ _. refl)
+rested_nesting s = of_both (λ (t : State). t.nesting ≡ s.nesting) (has_ended s) s (cond (is_resting s) (piece_closed s) s) (λ _. refl)
     (λ _. of_both (λ (t : State). t.nesting ≡ s.nesting) (is_resting s) (piece_closed s) s (λ _. refl) (λ _. refl))
 
 -- the sources that are opened behind the request stay those that were opened

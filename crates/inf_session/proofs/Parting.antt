@@ -37,8 +37,7 @@ or_true false b = refl
 
 -- a step that does not go on came to a fatal message, at which reading ends
 pub fatal_ends : {B : Type 0} (t : Session B) (x : Step) → x ≡ came_to false t → (x ≡ Step.More → ⊥) → ended t ≡ true
-fatal_ends t x came more =
-    ap (λ b. t.is_over || (b || is_mode_ended t.progress.reader.mode)) (fatal_by (is_fatal t) x came more)
+fatal_ends t x came more = ap (λ b. t.is_over || (b || is_mode_ended t.progress.reader.mode)) (fatal_by (is_fatal t) x came more)
     ∙ or_true t.is_over (is_mode_ended t.progress.reader.mode)
 
 -- a part of the source that does not go on ended with a fatal message
@@ -58,8 +57,7 @@ left_going : {B : Type 0} (s : Session B) → ended s ≡ false → steps_left s
 left_going s e = ap (λ b. cond b (most_texts - s.passed) (suc most_texts + weight s.open_files)) e
 
 pub veneer_falls : {B : Type 0} (s t : Session B) → ended s ≡ true → ended t ≡ true
-    → (is_none (next_of t) ≡ true) ⊎ ((s.passed < t.passed) × (t.passed ≤ most_texts))
-    → (is_done t ≡ true) ⊎ (steps_left t < steps_left s)
+    → (is_none (next_of t) ≡ true) ⊎ ((s.passed < t.passed) × (t.passed ≤ most_texts)) → (is_done t ≡ true) ⊎ (steps_left t < steps_left s)
 veneer_falls s t was is (inl none) = inl (done_by t is none)
 veneer_falls s t was is (inr more) = inr (omega (arith, left_ended s was, left_ended t is, more.0, more.1))
 

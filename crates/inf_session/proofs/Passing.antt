@@ -37,8 +37,7 @@ stepped limits context site t c s quoted said = record {
 }
 
 pub passes_on : (limits : Limits) (context : Context) (t : SourceToken) (c : Conditions) (s : ReaderState) (quoted : ℕ)
-    → judged (site_of context.settings s.reading) s.work.output t c ≡ kept c → c.said ≡ None
-    → token_taken limits context t c s quoted
+    → judged (site_of context.settings s.reading) s.work.output t c ≡ kept c → c.said ≡ None → token_taken limits context t c s quoted
     ≡ record {
       conditions = c;
       stand = step limits context t s.reading s.work;
@@ -52,9 +51,7 @@ passes_on limits context t c s quoted is none =
 pub passes_inside : (limits : Limits) (context : Context) (kind : TokenKind) (bytes : List ℕ) (place : Place) (c : Conditions) (s : ReaderState)
     (quoted : ℕ) → is_inside s.reading ≡ true →
     (let t = token_at false kind bytes place s.work in judged (site_of context.settings s.reading) s.work.output t c ≡ kept c) →
-    c.said ≡ None
-    → token_taken limits context (token_at (is_between s.reading) kind bytes place s.work) c s quoted
-    ≡ record {
+    c.said ≡ None → token_taken limits context (token_at (is_between s.reading) kind bytes place s.work) c s quoted ≡ record {
       conditions = c;
       stand = step limits context (token_at false kind bytes place s.work) s.reading s.work;
       quoted = quoted_behind (site_of context.settings s.reading) (kept c).judged (token_at false kind bytes place s.work) quoted;
@@ -77,12 +74,10 @@ pub passes_over : (limits : Limits) (context : Context) (t : SourceToken) (c d :
     → token_taken limits context t c s quoted ≡ record { conditions = d; stand = s; quoted = quoted }
 passes_over limits context t c d s quoted is none =
     let site : Site = site_of context.settings s.reading in
-    ap (behind limits context site t s quoted) is
-    ∙ ap (λ (said : Option Said). record {
+    ap (behind limits context site t s quoted) is ∙ ap (λ (said : Option Said). record {
       conditions = silent d;
       stand = said_told limits said context s;
       quoted = quoted_behind site none_handed t quoted;
-    }) none
-    ∙ ap (λ (n : ℕ). left limits context d s n None)
+    }) none ∙ ap (λ (n : ℕ). left limits context d s n None)
     (uncounted site.is_quiet quoted (cond (nat_lt quoted (quoted_bytes t)) (quoted_bytes t) quoted))
     ∙ ap (left limits context d s quoted) (sym none)

@@ -162,14 +162,11 @@ module _ {R B : Type 0} {f : Files R} where
 
   -- One call behind another, which had no fault: what the second comes to, and where it breaks off, is told from the start of the first.
   pub promised_then : {a b c : R} {x y z : Session B} {fault : Option Fault} {first next comes : Making} {other stops breaks : Breaking}
-      {P Q U : Type 0}
-      → Promised f a b x y None first other P → Promised f b c y z fault next stops Q
+      {P Q U : Type 0} → Promised f a b x y None first other P → Promised f b c y z fault next stops Q
       → ((sources : Sources) (o : Choices) (start : Openings) → IfNone fault (first sources o start → next sources o start → comes sources o
-      start))
-      → ((Rose (f.faults b) (f.faults c) → Rose (f.faults a) (f.faults c)) → (sources : Sources) (o : Choices) (start : Openings) →
+      start)) → ((Rose (f.faults b) (f.faults c) → Rose (f.faults a) (f.faults c)) → (sources : Sources) (o : Choices) (start : Openings) →
       IfSome fault (λ e. first sources o start → stops (Rose (f.faults b) (f.faults c)) sources o start e
-      → breaks (Rose (f.faults a) (f.faults c)) sources o start e))
-      → (Q → U) → Promised f a c x z fault comes breaks U
+      → breaks (Rose (f.faults a) (f.faults c)) sources o start e)) → (Q → U) → Promised f a c x z fault comes breaks U
   promised_then {a = a} {b = b} {c = c} {x = x} {y = y} {z = z} {fault = fault} {first = first} {next = next} {stops = stops} p q h k u =
       let still : IsTrue (f.is_honest a) → IsTrue (f.is_honest b) = λ honest. subst (λ t. IsTrue t) (sym p.went.honesty) honest in
       let rose : Rose (f.faults b) (f.faults c) → Rose (f.faults a) (f.faults c) =
@@ -178,13 +175,11 @@ module _ {R B : Type 0} {f : Files R} where
       subst (λ (o : Choices). P (f.sources a) o) (ap chosen p.setup) (subst (λ (s : Sources). P s (chosen y.setup)) p.went.sources held) in
       record {
         made = λ honest start nested.
-            let s = f.sources a in
-            let o = chosen x.setup in
+            let s = f.sources a in let o = chosen x.setup in
             none_both _ _ fault (none_then fault (h s o start) (λ g. g (p.made honest start nested)))
             (there (λ sources o. IfNone fault (next sources o start)) (q.made (still honest) start (p.went.nested honest start nested)));
         broken = λ honest start nested.
-            let s = f.sources a in
-            let o = chosen x.setup in
+            let s = f.sources a in let o = chosen x.setup in
             some_both _ _ fault (IfSome_then fault (k rose s o start) (λ e g. g (p.made honest start nested)))
             (there (λ sources o. IfSome fault (stops (Rose (f.faults b) (f.faults c)) sources o start))
             (q.broken (still honest) start (p.went.nested honest start nested)));
@@ -226,10 +221,8 @@ module _ {R B : Type 0} {f : Files R} where
       IfSome fault (λ e. first sources o start → breaks failed sources o start e))
       → IfSome fault (λ e. Caused e (λ name. ⊥) U) → Promised f a b x z fault comes breaks U
   promised_on {a = a} {b = b} {x = x} {y = y} {z = z} fault p files setup h k cause = record {
-    made = λ honest start nested.
-        none_then fault (h (f.sources a) (chosen x.setup) start) (λ g. g (p.made honest start nested));
-    broken = λ honest start nested.
-        IfSome_then fault (k (Rose (f.faults a) (f.faults b)) (f.sources a) (chosen x.setup) start)
+    made = λ honest start nested. none_then fault (h (f.sources a) (chosen x.setup) start) (λ g. g (p.made honest start nested));
+    broken = λ honest start nested. IfSome_then fault (k (Rose (f.faults a) (f.faults b)) (f.sources a) (chosen x.setup) start)
         (λ e g. g (p.made honest start nested));
     went = went_as f a b x.open_files y.open_files z.open_files files p.went;
     setup = setup ∙ p.setup;
@@ -238,11 +231,10 @@ module _ {R B : Type 0} {f : Files R} where
     fits = none_any fault p.fits;
     seen = seen_any fault p.seen;
     cause = IfSome_then fault cause (λ e c. caused_more e (λ name never. absurd never) (λ w. w) c);
-  }
-    where
-      is_set : IsSet y → IsSet z
-      is_set s = subst (λ (o : Open). o.nest.limit ≡ most_quoted (chosen z.setup)) (sym files)
-          (subst (λ (c : Setup). y.open_files.nest.limit ≡ most_quoted (chosen c)) (sym setup) s)
+  } where
+    is_set : IsSet y → IsSet z
+    is_set s = subst (λ (o : Open). o.nest.limit ≡ most_quoted (chosen z.setup)) (sym files)
+        (subst (λ (c : Setup). y.open_files.nest.limit ≡ most_quoted (chosen c)) (sym setup) s)
 
   -- No file is asked for anything in a call.
   pub promised_here : {a : R} {x z : Session B} {comes : Making} {breaks : Breaking} {U : Type 0} (fault : Option Fault)
@@ -288,8 +280,7 @@ module _ {R B : Type 0} {f : Files R} where
       promised_so p (λ s o start. none_any fault (h s o start)) (λ failed s o start. some_any fault (k failed s o start)) u
 
   pub promised_from_all : {a b : R} {x y z : Session B} {fault : Option Fault} {first comes : Making} {stops breaks : Breaking}
-      {P U : Type 0}
-      → y.open_files ≡ x.open_files → y.setup ≡ x.setup → Promised f a b y z fault first stops P
+      {P U : Type 0} → y.open_files ≡ x.open_files → y.setup ≡ x.setup → Promised f a b y z fault first stops P
       → ((sources : Sources) (o : Choices) (start : Openings) → first sources o start → comes sources o start)
       → ((failed : Type 0) (sources : Sources) (o : Choices) (start : Openings) (e : Fault) → stops failed sources o start e
       → breaks failed sources o start e) → (P → U) → Promised f a b x z fault comes breaks U
@@ -300,8 +291,7 @@ module _ {R B : Type 0} {f : Files R} where
       → z.open_files ≡ x.open_files → z.setup ≡ x.setup → ((sources : Sources) (o : Choices) (start : Openings) → comes sources o start)
       → ((failed : Type 0) (sources : Sources) (o : Choices) (start : Openings) (e : Fault) → breaks failed sources o start e)
       → IfSome fault (λ e. Caused e (λ name. ⊥) U) → Promised f a a x z fault comes breaks U
-  promised_here_all fault files setup h k cause =
-      promised_here fault files setup (λ s o start. none_any fault (h s o start))
+  promised_here_all fault files setup h k cause = promised_here fault files setup (λ s o start. none_any fault (h s o start))
       (λ failed s o start. some_any fault (k failed s o start)) cause
 
   -- Calls on the open files alone.

@@ -4,7 +4,6 @@ use Rattle.inf_settings.specs.Bounds.{Limits}
 use Rattle.inf_devices.specs.{Files.Openings, Files.Sources, Sinks.Takes}
 use Rattle.inf_devices.specs.declared.{files.Files.Ghosts as Files, sinks.Sink.Ghosts as Sink}
 use Rattle.inf_sources.specs.Open.{opened_since}
-use Rattle.inf_unit.specs.Messages.{flushed}
 use Rattle.inf_session.specs.{Choices.Choices, Standing.state, declared.session.Session.Session}
 use Rattle.inf_session.specs.Leading.{OpensAll, StopsFor, StopsAtInclusion, Writes}
 use Rattle.inf_session.specs.Promises.{Breaking, Promised, RunBreaks, StepIs, Stops, TurnBreaks, at_inclusion, in_token}
@@ -13,10 +12,6 @@ use Rattle.inf_ending.specs.{Delivered.IsFront, declared.faults.Fault.Fault}
 use Rattle.inf_session.proofs.Leadings.{cuts_in, cuts_nothing, cuts_on, opens_on, run_begins, run_more, run_sum, stops_at_more, stops_more}
 use Rattle.inf_session.proofs.Leadings.{part_more, part_one, run_going, still_going, turn_begins, writes_as, writes_on, wrote_on}
 use Rattle.inf_session.proofs.Promises.{promised_then, read_more}
-
--- a state whose lines are written
-abbrev pub emptied : State → State
-emptied s = record s { work = record s.work { report = flushed s.work.report } }
 
 -- the state behind a token and what it asks for
 abbrev pub turning : Limits → Sources → Choices → State → State
@@ -112,12 +107,10 @@ module _ {R M B : Type 0} {f : Files R} {m : Sink M} {limits : Limits} {sources 
   pub turn_breaks : {c : R} {y z : Session B} {old between new : M} {later failed : Type 0} {e : Fault} (n : ℕ)
       → TurnBreaks f m limits b c between new y z later sources o start e
       → Writes (run limits sources o n) (state sources start (f.openings a) x) (state sources start (f.openings b) y) (m.taken old)
-      (m.taken between)
-      → ((told : List ℕ) → has_ended (state sources start (f.openings b) y told) ≡ false) → (later → failed)
+      (m.taken between) → ((told : List ℕ) → has_ended (state sources start (f.openings b) y told) ≡ false) → (later → failed)
       → RunBreaks f m limits a c old new x z failed sources o start e
   turn_breaks {c = c} {y = y} {z = z} {old = old} {between = between} {new = new} {later = later} {failed = failed} {e = e} n h w going
-      more_failed =
-      record {
+      more_failed = record {
         turns = suc n;
         cut = cuts_on more w h.cut;
         others = opened.0;
@@ -158,8 +151,7 @@ module _ {R M B : Type 0} {f : Files R} {m : Sink M} {limits : Limits} {sources 
   -- Turns behind others were given up.
   pub run_breaks : {c : R} {y z : Session B} {old between new : M} {later failed : Type 0} {e : Fault} (n : ℕ)
       → Writes (run limits sources o n) (state sources start (f.openings a) x) (state sources start (f.openings b) y) (m.taken old)
-      (m.taken between)
-      → RunBreaks f m limits b c between new y z later sources o start e → (later → failed)
+      (m.taken between) → RunBreaks f m limits b c between new y z later sources o start e → (later → failed)
       → RunBreaks f m limits a c old new x z failed sources o start e
   run_breaks {c = c} {y = y} {z = z} {later = later} {failed = failed} {e = e} n w h more_failed = record {
     turns = n + h.turns;
@@ -175,17 +167,16 @@ module _ {R M B : Type 0} {f : Files R} {m : Sink M} {limits : Limits} {sources 
           (subst (λ (s : State). StopsFor limits later sources o s start now z.open_files name) (sym (behind g.turns told))
           (g.stops (told ++ w.lines)));
     }) h.unread;
-  }
-    where
-      was : List ℕ → State
-      was = state sources start (f.openings a) x
+  } where
+    was : List ℕ → State
+    was = state sources start (f.openings a) x
 
-      now : Openings
-      now = f.openings c
+    now : Openings
+    now = f.openings c
 
-      sum : (k : ℕ) (told : List ℕ) → run limits sources o (n + k) (was told) ≡ run limits sources o k (run limits sources o n (was told))
-      sum k told = run_sum limits sources o n k (was told)
+    sum : (k : ℕ) (told : List ℕ) → run limits sources o (n + k) (was told) ≡ run limits sources o k (run limits sources o n (was told))
+    sum k told = run_sum limits sources o n k (was told)
 
-      behind : (k : ℕ) (told : List ℕ) →
-          run limits sources o (n + k) (was told) ≡ run limits sources o k (state sources start (f.openings b) y (told ++ w.lines))
-      behind k told = sum k told ∙ ap (run limits sources o k) (sym (w.same told))
+    behind : (k : ℕ) (told : List ℕ) →
+        run limits sources o (n + k) (was told) ≡ run limits sources o k (state sources start (f.openings b) y (told ++ w.lines))
+    behind k told = sum k told ∙ ap (run limits sources o k) (sym (w.same told))

@@ -23,12 +23,10 @@ fit_ascii name fit = each_ascii name (second_holds (not (length name == 0)) (lis
 
 pub names_are_ascii : (text : List ℕ) → can_name text ≡ true → IsAscii text
 names_are_ascii [] can = each_ascii [] refl
-names_are_ascii (b ∷ bs) can = by (b == 62) refl can
-  where
-    by : (sign : Bool) → (b == 62) ≡ sign → is_fit (cond sign bs (b ∷ bs)) ≡ true → IsAscii (b ∷ bs)
-    by false is fit = fit_ascii (b ∷ bs) fit
-    by true is fit = behind (fit_ascii bs fit)
-      where
-        behind : IsAscii bs → IsAscii (b ∷ bs)
-        behind each zero = omega (arith, eqb-true b 62 is)
-        behind each (suc i) = each i
+names_are_ascii (b ∷ bs) can = by (b == 62) refl can where
+  by : (sign : Bool) → (b == 62) ≡ sign → is_fit (cond sign bs (b ∷ bs)) ≡ true → IsAscii (b ∷ bs)
+  by false is fit = fit_ascii (b ∷ bs) fit
+  by true is fit = behind (fit_ascii bs fit) where
+    behind : IsAscii bs → IsAscii (b ∷ bs)
+    behind each zero = omega (arith, eqb-true b 62 is)
+    behind each (suc i) = each i

@@ -20,13 +20,11 @@ pub record OneWaits (waiting : List Waiting) (f : OpenFile) : Type 0 where
   pub is : waiting ≡ record { cursor = cursor; conditionals = reverse f.conditionals.items; is_system = f.is_system } ∷ others
 
 pub one_waits : (s : Sources) (start now : Openings) (o : Open) (outer : List OpenFile) (f : OpenFile) → IsNested start now o →
-    o.outer ≡ outer ++ f ∷ []
-    → OneWaits (nesting s start now o).waiting f
+    o.outer ≡ outer ++ f ∷ [] → OneWaits (nesting s start now o).waiting f
 one_waits s start now o outer f n e =
     let around : reverse o.outer ≡ f ∷ reverse outer = ap reverse e ∙ reverse_last outer f in
     let at = innermost_of (length now.all) (reverse now.open_places) o.lexer (lexers_of (reverse o.outer)) n.nested in
-    let inner =
-    innermost_of at.place at.rest f.lexer (lexers_of (reverse outer))
+    let inner = innermost_of at.place at.rest f.lexer (lexers_of (reverse outer))
     (subst (λ (fs : List OpenFile). AreNested at.place at.rest (lexers_of fs)) around at.inner) in
     record {
       cursor = cursor_of f.lexer (rest_of s (get_or now.all inner.place (opened [])) f.lexer.window);
@@ -42,8 +40,7 @@ none_at s now [] = refl
 none_at s now (p ∷ places) = refl
 
 pub none_waits : (s : Sources) (start now : Openings) (f : Open) → f.outer ≡ [] → (nesting s start now f).waiting ≡ []
-none_waits s start now f e =
-    ap (λ (fs : List OpenFile). waiting_at s now.all (drop 1 (reverse now.open_places)) (reverse fs)) e
+none_waits s start now f e = ap (λ (fs : List OpenFile). waiting_at s now.all (drop 1 (reverse now.open_places)) (reverse fs)) e
     ∙ none_at s now (drop 1 (reverse now.open_places))
 
 -- the state where a file was left, and reading goes on in the one that waits, as that was
@@ -86,7 +83,6 @@ left_is s n c back r f ended told given e one =
 pub stays : (s : State) (n : Nesting) (c : Conditions) (r : Reported) → c ≡ file_ended s.conditions →
     r ≡ file_told s.nesting.names s.conditions s.work.report
     → n ≡ s.nesting → s.nesting.waiting ≡ [] → record (closed_as c r s) { nesting = n } ≡ left s
-stays s n c r ended told e none =
-    ap (λ (x : State). record x { nesting = n }) (closed_is s c r ended told)
+stays s n c r ended told e none = ap (λ (x : State). record x { nesting = n }) (closed_is s c r ended told)
     ∙ ap (λ (m : Nesting). record (file_closed s) { nesting = m }) e
     ∙ sym (ap (λ (waiting : List Waiting). left_by waiting (file_closed s)) none)

@@ -15,8 +15,7 @@ abbrev pub spelled_as : TokenKind → List ℕ → Place → Bool → SourceToke
 spelled_as k bytes place named = record { kind = k; bytes = bytes; place = place; is_class = named }
 
 at_end : (limits : Limits) (context : Context) (bytes : List ℕ) (place : Place) (named : Bool) (out : Out) (c : Conditions)
-    (s : ReaderState) (site : Site)
-    (now : Conditions) (j : Filtered)
+    (s : ReaderState) (site : Site) (now : Conditions) (j : Filtered)
     → record { now = now; judged = j } ≡ judged site out (end_of bytes place named) c → is_mode_ended
     (judged_taken limits context (end_of bytes place named) j s).reading.mode ≡ true
 at_end limits context bytes place named out c s site now j e =
@@ -25,12 +24,10 @@ at_end limits context bytes place named out c s site now j e =
 
 -- the end of a file is handed on, in some way, and ends the reading
 pub end_ends : (limits : Limits) (context : Context) (k : TokenKind) (bytes : List ℕ) (place : Place) (named : Bool) (out : Out)
-    (c : Conditions) (s : ReaderState)
-    (site : Site) (now : Conditions) (j : Filtered)
+    (c : Conditions) (s : ReaderState) (site : Site) (now : Conditions) (j : Filtered)
     → record { now = now; judged = j } ≡ judged site out (spelled_as k bytes place named) c → k ≡ TokenKind.End
     → is_mode_ended (judged_taken limits context (spelled_as k bytes place named) j s).reading.mode ≡ true
 end_ends limits context k bytes place named out c s site now j e is =
     subst (λ (x : TokenKind). is_mode_ended (judged_taken limits context (spelled_as x bytes place named) j s).reading.mode ≡ true) (sym is)
     (at_end limits context bytes place named out c s site now j
-    (subst (λ (x : TokenKind). record { now = now; judged = j } ≡ judged site out
-    (spelled_as x bytes place named) c) is e))
+    (subst (λ (x : TokenKind). record { now = now; judged = j } ≡ judged site out (spelled_as x bytes place named) c) is e))

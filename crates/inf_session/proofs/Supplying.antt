@@ -30,8 +30,7 @@ use Rattle.inf_ending.proofs.Delivering.{takes_none, takes_then}
 -- Names and texts are short
 
 get_all : (p : List ℕ → Bool) (xs : List (List ℕ)) (i : ℕ) (x : List ℕ) → list_all p xs ≡ true → slice_get xs i ≡ Some x → p x ≡ true
-get_all p xs i x all got =
-    subst (λ (y : List ℕ). p y ≡ true) (get_or_from_slice_get xs i x x got)
+get_all p xs i x all got = subst (λ (y : List ℕ). p y ≡ true) (get_or_from_slice_get xs i x x got)
     (AllPass-from_list_all p xs all i x (slice_get_within xs i x got))
 
 behind_test : (b : Bool) (o : Option (List ℕ)) (x : List ℕ) → cond b None o ≡ Some x → o ≡ Some x
@@ -78,8 +77,7 @@ within_by false n m others few e later = let l = later e in (omega (arith, l.0),
 
 pub first_within : (k n m : ℕ) (names : Table Place) → k ≡ most_texts - n → first_wanted k n names ≡ Some m → (n < m) × (m ≤ most_texts)
 first_within zero n m names at e = let never : None ≡ Some m = e in cc
-first_within (suc k) n m names at e =
-    within_by (is_wanted (suc n) names) n m (first_wanted k (suc n) names) (omega (arith, at)) e
+first_within (suc k) n m names at e = within_by (is_wanted (suc n) names) n m (first_wanted k (suc n) names) (omega (arith, at)) e
     (λ later. first_within k (suc n) m names (omega (arith, at)) later)
 
 -- the search for the next routine goes on
@@ -87,8 +85,7 @@ pub first_next : (n : ℕ) (names : Table Place) → n < most_texts → is_wante
     → first_wanted (most_texts - n) n names ≡ first_wanted (most_texts - (n + 1)) (n + 1) names
 first_next n names few unwanted =
     let left : most_texts - n ≡ suc (most_texts - (n + 1)) = omega (arith, few) in
-    let next : suc n ≡ n + 1 = omega arith in
-    let k = most_texts - (n + 1) in
+    let next : suc n ≡ n + 1 = omega arith in let k = most_texts - (n + 1) in
     ap (λ m. first_wanted m n names) left
     ∙ ap (λ b. cond b (Some (suc n)) (first_wanted k (suc n) names)) (ap (λ m. is_wanted m names) next ∙ unwanted)
     ∙ ap (λ m. first_wanted k m names) next
@@ -135,8 +132,7 @@ supplied_none limits o s e = none_by limits o s s.work.report.counts.is_over ref
 -- The first routine that is wanted is read, and then those behind it
 
 read_by : (limits : Limits) (o : Choices) (k n m : ℕ) (s : State) (b : Bool) → k ≡ most_texts - suc n
-    → cond b (Some (suc n)) (first_wanted k (suc n) s.work.output.names) ≡ Some m
-    → (first_wanted k (suc n) s.work.output.names ≡ Some m
+    → cond b (Some (suc n)) (first_wanted k (suc n) s.work.output.names) ≡ Some m → (first_wanted k (suc n) s.work.output.names ≡ Some m
     → supplied_by limits o k (suc n) s ≡ supplied_by limits o (most_texts - m) m (text_read limits o m s))
     → supplied_by limits o k (suc n) (cond b (text_read limits o (suc n) s) s)
     ≡ supplied_by limits o (most_texts - m) m (text_read limits o m s)
@@ -147,8 +143,7 @@ read_by limits o k n m s true at e later =
 read_by limits o k n m s false at e later = later e
 
 first_read : (limits : Limits) (o : Choices) (k n m : ℕ) (s : State) → k ≡ most_texts - n → first_wanted k n s.work.output.names ≡ Some m
-    → s.work.report.counts.is_over ≡ false
-    → supplied_by limits o k n s ≡ supplied_by limits o (most_texts - m) m (text_read limits o m s)
+    → s.work.report.counts.is_over ≡ false → supplied_by limits o k n s ≡ supplied_by limits o (most_texts - m) m (text_read limits o m s)
 first_read limits o zero n m s at e going = let never : None ≡ Some m = e in cc
 first_read limits o (suc k) n m s at e going =
     let b = is_wanted (suc n) s.work.output.names in
@@ -174,8 +169,7 @@ next_within is_fatal passed m names e =
 
 text_told : (limits : Limits) (o : Choices) (k : ℕ) (s : State) → (text_turns limits o k s).told ≡ s.told
 text_told limits o zero s = refl
-text_told limits o (suc k) s =
-    of_both (λ (t : State). t.told ≡ s.told) (has_ended s) s _ (λ _. refl)
+text_told limits o (suc k) s = of_both (λ (t : State). t.told ≡ s.told) (has_ended s) s _ (λ _. refl)
     (λ _. text_told limits o k (rested (stepped limits o s)) ∙ rested_told (stepped limits o s))
 
 pub text_begins : (limits : Limits) (o : Choices) (n : ℕ) (s : State) → IsFront s.told (text_read limits o n s).told
@@ -187,18 +181,10 @@ text_begins limits o n s =
           (text_told limits o (suc (length (veneer_text n))) (in_text (text_front o n s) (text_begun s)));
     }
 
-at_begins : (limits : Limits) (o : Choices) (next : Option ℕ) (s : State) → IsFront s.told (supplied_at limits o next s).told
-at_begins limits o None s = front_same s.told
-at_begins limits o (Some n) s = text_begins limits o n s
-
-pub next_begins : (limits : Limits) (o : Choices) (s : State) → IsFront s.told (next_supplied limits o s).told
-next_begins limits o s = at_begins limits o (next_in s) s
-
 by_begins : (limits : Limits) (o : Choices) (k n : ℕ) (s : State) → IsFront s.told (supplied_by limits o k n s).told
 by_begins limits o zero n s = front_same s.told
 by_begins limits o (suc k) n s =
-    let wanted = is_wanted (suc n) s.work.output.names in
-    let next = cond wanted (text_read limits o (suc n) s) s in
+    let wanted = is_wanted (suc n) s.work.output.names in let next = cond wanted (text_read limits o (suc n) s) s in
     of_both (λ (t : State). IsFront s.told t.told) s.work.report.counts.is_over s _ (λ _. front_same s.told)
     (λ _. front_then {ys = next.told}
     (of_both (λ (t : State). IsFront s.told t.told) wanted (text_read limits o (suc n) s) s (λ _. text_begins limits o (suc n) s)
@@ -235,8 +221,7 @@ pub text_leads : (limits : Limits) (o : Choices) (n : ℕ) (was begun after : Li
 text_leads limits o n was begun after first last told begins front turned nest =
     let over = λ (n : ℕ) (t : State) (m : Nesting). record (told_out t) { nesting = m; is_over = true; passed = n } in
     let turns = text_turns limits o (suc (length (veneer_text n))) in
-    ap (λ (m : Nesting). over n (in_text last (after told)) m) nest
-    ∙ ap (λ (t : State). over n t (was told).nesting) turned
+    ap (λ (m : Nesting). over n (in_text last (after told)) m) nest ∙ ap (λ (t : State). over n t (was told).nesting) turned
     ∙ ap (λ (s : State). over n (turns (in_text first s)) (was told).nesting) begins
     ∙ ap (λ (l : TextReader). over n (turns (in_text l (text_begun (was told)))) (was told).nesting) front
 
@@ -267,15 +252,14 @@ pub supplies_so : {M B : Type 0} {m : Sink M} {f g : Choices → State → State
     → fault ≡ other → Supplies m f old new x z fault
     → ((sources : Sources) (start now : Openings) (told : List ℕ) → f (chosen x.setup) (state sources start now x told)
     ≡ g (chosen x.setup) (state sources start now x told)) → Supplies m g old new x z other
-supplies_so {m = m} {g = g} {old = old} {new = new} {x = x} {z = z} {fault = fault} e p same =
-    supplies_as e (record {
-      made = λ sources start now. none_then fault (p.made sources start now) (λ w. writes_as (same sources start now) w);
-      broken = λ sources start now. IfSome_then fault (p.broken sources start now) (λ e w. cuts_as (same sources start now) w);
-      files = p.files;
-      setup = p.setup;
-      cause = p.cause;
-      wrote = p.wrote;
-    })
+supplies_so {m = m} {g = g} {old = old} {new = new} {x = x} {z = z} {fault = fault} e p same = supplies_as e (record {
+  made = λ sources start now. none_then fault (p.made sources start now) (λ w. writes_as (same sources start now) w);
+  broken = λ sources start now. IfSome_then fault (p.broken sources start now) (λ e w. cuts_as (same sources start now) w);
+  files = p.files;
+  setup = p.setup;
+  cause = p.cause;
+  wrote = p.wrote;
+})
 
 -- Lemmas about one routine behind another
 
@@ -291,13 +275,11 @@ leads_none {step = step} {was = was} old =
 
 module _ (limits : Limits) (o : Choices) {was mid : List ℕ → State} {old between : Option (List ℕ)} where
   pub leads_then : {now : List ℕ → State} {new : Option (List ℕ)} → LeadsOn (supplied limits o) was mid old between
-      → Writes (next_supplied limits o) mid now between new
-      → LeadsOn (supplied limits o) was now old new
+      → Writes (next_supplied limits o) mid now between new → LeadsOn (supplied limits o) was now old new
   leads_then {now = now} {new = new} a b = record {
     lines = a.lines ++ b.lines;
     takes = takes_then old between new a.lines b.lines a.takes b.takes;
-    same = λ told.
-        ap (λ l. supplied limits o (now l)) (sym (append_assoc told a.lines b.lines))
+    same = λ told. ap (λ l. supplied limits o (now l)) (sym (append_assoc told a.lines b.lines))
         ∙ ap (supplied limits o) (b.same (told ++ a.lines)) ∙ supplied_more limits o (mid (told ++ a.lines)) ∙ a.same told;
   }
 
@@ -310,14 +292,12 @@ module _ (limits : Limits) (o : Choices) {was mid : List ℕ → State} {old bet
   }
 
   pub leads_cut : {new : Option (List ℕ)} → LeadsOn (supplied limits o) was mid old between
-      → CutsShort (next_supplied limits o) mid between new
-      → CutsShort (supplied limits o) was old new
+      → CutsShort (next_supplied limits o) mid between new → CutsShort (supplied limits o) was old new
   leads_cut {new = new} a b = record {
     front = a.lines ++ b.front;
     takes = takes_then old between new a.lines b.front a.takes b.takes;
     begins = λ told.
-        let here = mid (told ++ a.lines) in
-        let next = next_supplied limits o here in
+        let here = mid (told ++ a.lines) in let next = next_supplied limits o here in
         let whole : supplied limits o next ≡ supplied limits o (was told) = supplied_more limits o here ∙ a.same told in
         subst (λ l. IsFront l (supplied limits o (was told)).told) (append_assoc told a.lines b.front)
         (subst (λ (t : State). IsFront ((told ++ a.lines) ++ b.front) t.told) whole

@@ -3,12 +3,11 @@ use Rattle.std.proofs.Common.{◌≡◌, ◌≤◌, ℕ, List, Bool, true, lengt
 use Rattle.inf_settings.specs.Bounds.{Limits}
 use Rattle.inf_scanner.specs.{declared.tokens.Place.Place, declared.tokens.TokenKind.TokenKind}
 use Rattle.inf_sources.specs.{Cursors.behind, Cursors.read, Inclusions.Nesting, Quoted.is_quoted_kind}
-use Rattle.inf_unit.specs.{Messages.Reported, Tokens.SourceToken}
-use Rattle.inf_conditionals.specs.{Judging.Behind, Judging.judged, Open.Conditions, Open.silent, declared.filtered.Site.Site}
-use Rattle.inf_output.specs.Output.{Out}
-use Rattle.inf_reader.specs.Handing.{is_between, judged_taken, said_told, site_of}
+use Rattle.inf_unit.specs.{Tokens.SourceToken}
+use Rattle.inf_conditionals.specs.{Judging.judged, Open.Conditions}
+use Rattle.inf_reader.specs.Handing.{is_between, said_told, site_of}
 use Rattle.inf_reader.specs.Reading.{ReaderState, is_mode_ended}
-use Rattle.inf_session.specs.{Choices.Choices, Taking.Taken, Taking.quoted_behind, Taking.token_at, Taking.token_taken}
+use Rattle.inf_session.specs.{Choices.Choices, Taking.Taken, Taking.token_at, Taking.token_taken}
 use Rattle.inf_session.specs.Session.{State, context_of, stand_of, stepped, token_of}
 use Rattle.inf_compilation.specs.Context.{Context}
 use Rattle.inf_session.proofs.{Bounds.quoted_within, Stepping.end_ends}
@@ -29,60 +28,29 @@ with_taken s n x = record {
 abbrev pub moved : State → Nesting
 moved s = record s.nesting { cursor = behind s.nesting.cursor (read s.nesting.cursor) }
 
--- the reading and the compiled work, with other lines and names
-abbrev pub reporting : ReaderState → Reported → Out → ReaderState
-reporting s r o = record s { work = record s.work { report = r; output = o } }
-
 abbrev pub taken_as : Conditions → ReaderState → ℕ → Taken
 taken_as c x quoted = record { conditions = c; stand = x; quoted = quoted }
 
--- the state behind a token, by its judgement among conditionals
-abbrev by_behind : Limits → Context → SourceToken → Site → ReaderState → ℕ → Behind → Taken
-by_behind limits context t site s quoted b =
-    taken_as (silent b.now) (judged_taken limits context t b.judged (said_told limits b.now.said context s))
-    (quoted_behind site b.judged t quoted)
-
-abbrev by_site : Limits → Context → SourceToken → Conditions → ReaderState → ℕ → Site → Taken
-by_site limits context t c s quoted site = by_behind limits context t site s quoted (judged site s.work.output t c)
-
-pub taken_is : (limits : Limits) (context : Context) (t u : SourceToken) (c : Conditions) (s : ReaderState) (quoted : ℕ) (site : Site)
-    (b : Behind) (now : Conditions) (x : ReaderState) (longest : ℕ)
-    → site ≡ site_of context.settings s.reading → u ≡ t → b ≡ judged site s.work.output u c → now ≡ silent b.now
-    → x ≡ judged_taken limits context u b.judged (said_told limits b.now.said context s) → longest ≡ quoted_behind site b.judged u quoted
-    → taken_as now x longest ≡ token_taken limits context t c s quoted
-taken_is limits context t u c s quoted site b now x longest at is behind_it quiet taken most =
-    ap (λ (c : Conditions). taken_as c x longest) quiet
-    ∙ ap (λ (x : ReaderState). taken_as (silent b.now) x longest) taken
-    ∙ ap (λ q. taken_as (silent b.now) (judged_taken limits context u b.judged (said_told limits b.now.said context s)) q) most
-    ∙ ap (by_behind limits context u site s quoted) behind_it
-    ∙ ap (λ (site : Site). by_site limits context u c s quoted site) at
-    ∙ ap (λ (t : SourceToken). by_site limits context t c s quoted (site_of context.settings s.reading)) is
-
 pub step_is : (limits : Limits) (o : Choices) (s : State) (n : Nesting) (x : Taken) (context : Context) (t : SourceToken)
-    → n ≡ moved s → context ≡ context_of o s → t ≡ token_of s
-    → x ≡ token_taken limits context t s.conditions (stand_of s) s.quoted
+    → n ≡ moved s → context ≡ context_of o s → t ≡ token_of s → x ≡ token_taken limits context t s.conditions (stand_of s) s.quoted
     → with_taken s n x ≡ stepped limits o s
-step_is limits o s n x context t goes same is taken =
-    ap (λ (n : Nesting). with_taken s n x) goes
+step_is limits o s n x context t goes same is taken = ap (λ (n : Nesting). with_taken s n x) goes
     ∙ ap (λ (x : Taken). with_taken s (moved s) x) taken
     ∙ ap (λ (c : Context). with_taken s (moved s) (token_taken limits c t s.conditions (stand_of s) s.quoted)) same
     ∙ ap (λ (t : SourceToken). with_taken s (moved s) (token_taken limits (context_of o s) t s.conditions (stand_of s) s.quoted)) is
 
 -- the longest quoted token stays as short as it may be
 pub taken_within : (limits : Limits) (context : Context) (t : SourceToken) (c : Conditions) (s : ReaderState) (quoted most : ℕ)
-    → (is_quoted_kind t.kind ≡ true → length t.bytes ≤ most) → quoted ≤ most
-    → (token_taken limits context t c s quoted).quoted ≤ most
+    → (is_quoted_kind t.kind ≡ true → length t.bytes ≤ most) → quoted ≤ most → (token_taken limits context t c s quoted).quoted ≤ most
 taken_within limits context t c s quoted most few before =
     let site = site_of context.settings s.reading in
     quoted_within site (judged site s.work.output t c).judged t quoted most few before
 
 -- at the end of a file reading ends
 pub taken_ends : (limits : Limits) (context : Context) (t : SourceToken) (c : Conditions) (s : ReaderState) (quoted : ℕ) →
-    t.kind ≡ TokenKind.End
-    → is_mode_ended (token_taken limits context t c s quoted).stand.reading.mode ≡ true
+    t.kind ≡ TokenKind.End → is_mode_ended (token_taken limits context t c s quoted).stand.reading.mode ≡ true
 taken_ends limits context t c s quoted is =
-    let site = site_of context.settings s.reading in
-    let b = judged site s.work.output t c in
+    let site = site_of context.settings s.reading in let b = judged site s.work.output t c in
     end_ends limits context t.kind t.bytes t.place t.is_class s.work.output c (said_told limits b.now.said context s) site b.now b.judged
     refl is
 
@@ -92,7 +60,6 @@ pub token_is : (s : State) (front : Bool) (k : TokenKind) (bytes : List ℕ) (pl
     → token_at front k bytes place s.work ≡ token_of s
 token_is s front k bytes place front_is kind_is place_is bytes_are =
     let r = read s.nesting.cursor in
-    ap (λ x. token_at x k bytes place s.work) front_is
-    ∙ ap (λ k. token_at (is_between s.reading) k bytes place s.work) kind_is
+    ap (λ x. token_at x k bytes place s.work) front_is ∙ ap (λ k. token_at (is_between s.reading) k bytes place s.work) kind_is
     ∙ ap (λ p. token_at (is_between s.reading) r.kind bytes p s.work) place_is
     ∙ ap (λ bytes. token_at (is_between s.reading) r.kind bytes (record { file = s.nesting.cursor.file; line = r.line }) s.work) bytes_are

@@ -51,11 +51,9 @@ quoted_only : (set : CharSet) (limit : ℕ) (e : Ending) (k : Kept) → is_quote
 quoted_only set limit Ending.End k is = cc
 quoted_only set limit Ending.Unfit k is = cc
 quoted_only set limit (Ending.Mark m) k is = cc
-quoted_only set limit (Ending.Run false) k is =
-    unquoted limit (Ending.Run false) (kind_of set (Ending.Run false) k)
+quoted_only set limit (Ending.Run false) k is = unquoted limit (Ending.Run false) (kind_of set (Ending.Run false) k)
     (cond_both k.is_cut (TokenKind.Bad BadToken.LongName) TokenKind.Name (λ x. is_quoted_kind x ≡ false) (λ _. refl) (λ _. refl)) is
-quoted_only set limit (Ending.Run true) k is =
-    unquoted limit (Ending.Run true) (kind_of set (Ending.Run true) k)
+quoted_only set limit (Ending.Run true) k is = unquoted limit (Ending.Run true) (kind_of set (Ending.Run true) k)
     (cond_both k.is_cut (TokenKind.Bad BadToken.Number) (number_kind (number_of k.bytes)) (λ x. is_quoted_kind x ≡ false) (λ _. refl)
     (λ _. number_unquoted (number_of k.bytes))) is
 quoted_only set limit Ending.Unclosed k is = refl
@@ -66,8 +64,7 @@ next_few : (set : CharSet) (limit : ℕ) (lines : Lines) (bytes : List ℕ) → 
     → length (next_token set limit lines bytes).kept.bytes ≤ limit
 next_few set limit lines [] is = cc
 next_few set limit lines (b ∷ bytes) is =
-    let s = next_spelled set limit lines (b ∷ bytes) (omega arith) in
-    let p : Piece = s.piece in
+    let s = next_spelled set limit lines (b ∷ bytes) (omega arith) in let p : Piece = s.piece in
     let most : most_of limit s.is.ending ≡ limit =
     quoted_only set limit s.is.ending p.read.kept (ap is_quoted_kind (sym s.is.is_told ∙ ap (λ (r : Read). r.kind) s.is.is_read) ∙ is) in
     let kept : length (next_token set limit lines (b ∷ bytes)).kept.bytes ≡ length p.read.kept.bytes =
@@ -78,8 +75,7 @@ next_few set limit lines (b ∷ bytes) is =
 -- at most as many bytes are kept of a quoted token as it may have
 pub text_few : (before after : TextReader) (token : Token) → token ≡ text_token before.file (next_of before)
     → after ≡ behind (next_of before) before → is_quoted_kind token.kind ≡ true → length after.kept.bytes ≤ before.limit
-text_few before after token is on quoted =
-    subst (λ (l : TextReader). length l.kept.bytes ≤ before.limit) (sym on)
+text_few before after token is on quoted = subst (λ (l : TextReader). length l.kept.bytes ≤ before.limit) (sym on)
     (next_few before.set before.limit before.lines before.rest (ap (λ (t : Token). is_quoted_kind t.kind) (sym is) ∙ quoted))
 
 -- Lemmas about a turn
@@ -89,8 +85,7 @@ in_cond l true s t = refl
 in_cond l false s t = refl
 
 pub in_rested : (l : TextReader) (s : State) → in_text l (rested s) ≡ rested (in_text l s)
-in_rested l s =
-    in_cond l (has_ended s) s (cond (is_resting s) (piece_closed s) s)
+in_rested l s = in_cond l (has_ended s) s (cond (is_resting s) (piece_closed s) s)
     ∙ ap (λ (t : State). cond (has_ended s) (in_text l s) t) (in_cond l (is_resting s) (piece_closed s) s)
 
 pub text_turned : (limits : Limits) (o : Choices) (s mid now : State) (before after : TextReader) (token : Token) (context : Context)
@@ -98,9 +93,7 @@ pub text_turned : (limits : Limits) (o : Choices) (s mid now : State) (before af
     → token ≡ text_token before.file (next_of before) → after ≡ behind (next_of before) before → bytes ≡ after.kept.bytes
     → context ≡ context_of o (in_text before s)
     → x ≡ token_taken limits context (token_at (is_between s.reading) token.kind bytes token.place s.work) s.conditions (stand_of s)
-    s.quoted
-    → mid ≡ with_taken s s.nesting x → now ≡ rested mid
-    → in_text after now ≡ rested (stepped limits o (in_text before s))
+    s.quoted → mid ≡ with_taken s s.nesting x → now ≡ rested mid → in_text after now ≡ rested (stepped limits o (in_text before s))
 text_turned limits o s mid now before after token context bytes x is on spelled same taken goes last =
     let t = token_at (is_between s.reading) token.kind bytes token.place s.work in
     let kept : bytes ≡ (next_of before).kept.bytes = spelled ∙ ap (λ (l : TextReader). l.kept.bytes) on in
@@ -127,6 +120,3 @@ text_next limits o (suc n) s t some going is =
 pub text_ended : (limits : Limits) (o : Choices) (n : ℕ) (s : State) → has_ended s ≡ true → text_turns limits o n s ≡ s
 text_ended limits o zero s e = refl
 text_ended limits o (suc n) s e = ap (λ b. cond b s (text_turns limits o n (rested (stepped limits o s)))) e
-
-pub text_none : (limits : Limits) (o : Choices) (n : ℕ) (s : State) → n ≡ 0 → text_turns limits o n s ≡ s
-text_none limits o n s e = ap (λ m. text_turns limits o m s) e

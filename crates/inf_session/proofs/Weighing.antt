@@ -13,11 +13,10 @@ scale_sum zero a b = refl
 scale_sum (suc n) a b = ap (scale n) (omega arith) ∙ scale_sum n (16777218 * a) (16777218 * b)
 
 scale_one : (n : ℕ) → 0 < scale n 1
-scale_one n = scale_at n 0
-  where
-    scale_at : (n a : ℕ) → 0 < scale n (suc a)
-    scale_at zero a = omega arith
-    scale_at (suc n) a = subst (λ m. 0 < scale n m) (omega arith) (scale_at n (16777218 * a + 16777217))
+scale_one n = scale_at n 0 where
+  scale_at : (n a : ℕ) → 0 < scale n (suc a)
+  scale_at zero a = omega arith
+  scale_at (suc n) a = subst (λ m. 0 < scale n m) (omega arith) (scale_at n (16777218 * a + 16777217))
 
 scale_more : (n a b : ℕ) → a < b → scale n a < scale n b
 scale_more n a b less =
@@ -33,14 +32,12 @@ weigh_append n m [] ys e =
     let here : weigh_from n ys ≡ weigh_from m ys = ap (λ k. weigh_from k ys) same in
     omega (arith, here)
 weigh_append n m (x ∷ xs) ys e =
-    let rest = weigh_append (suc n) m xs ys (omega (arith, e)) in
-    omega (arith, rest)
+    let rest = weigh_append (suc n) m xs ys (omega (arith, e)) in omega (arith, rest)
 
 -- the weight of the outer files and the innermost one
 weight_is : (outer : List Reader) (r : Reader) → weigh_from 0 (outer ++ r ∷ []) ≡ weigh_from 0 outer + scale (15 - length outer) (room r)
 weight_is outer r =
-    let split = weigh_append 0 (length outer) outer (r ∷ []) (omega arith) in
-    omega (arith, split)
+    let split = weigh_append 0 (length outer) outer (r ∷ []) (omega arith) in omega (arith, split)
 
 weight_in : (f : Open) (outer : List Reader) → lexers_of f.outer ≡ outer →
     weight f ≡ weigh_from 0 outer + scale (15 - length outer) (room f.lexer)
@@ -88,8 +85,7 @@ leaves_less before mid after outer left =
 -- another file was entered, which can have no more than the weight of the bytes that were taken
 enters_less : (before mid after : Open) → lexers_of mid.outer ≡ lexers_of before.outer → room mid.lexer < room before.lexer
     → after.lexer.window.given ≡ 0 → after.lexer.window.left ≡ [] → lexers_of after.outer ≡ lexers_of mid.outer ++ mid.lexer ∷ [] → length
-    (lexers_of mid.outer) < 15 →
-    Falls before after
+    (lexers_of mid.outer) < 15 → Falls before after
 enters_less before mid after outer less none empty entered deep =
     let levels : 15 - length (lexers_of before.outer) ≡ suc (14 - length (lexers_of before.outer)) = omega (arith, deep, ap length outer) in
     let was : weight before ≡ weigh_from 0 (lexers_of before.outer) + scale (14 - length (lexers_of before.outer))
@@ -100,8 +96,7 @@ enters_less before mid after outer less none empty entered deep =
     let inner : 15 - length (lexers_of before.outer ++ mid.lexer ∷ []) ≡ 14 - length (lexers_of before.outer) = omega (arith, size) in
     let all : room after.lexer ≡ 16777217 = omega (arith, none, ap length empty) in
     let around : weigh_from 0 (lexers_of before.outer ++ mid.lexer ∷ []) ≡ weigh_from 0 (lexers_of before.outer) + scale
-    (14 - length (lexers_of before.outer))
-    (16777218 * room mid.lexer) =
+    (14 - length (lexers_of before.outer)) (16777218 * room mid.lexer) =
     weight_is (lexers_of before.outer) mid.lexer ∙ ap (λ n. weigh_from 0 (lexers_of before.outer) + scale n (room mid.lexer)) levels in
     let now : weight after ≡ weigh_from 0 (lexers_of before.outer ++ mid.lexer ∷ []) + scale
     (14 - length (lexers_of before.outer)) 16777217 =
@@ -109,8 +104,7 @@ enters_less before mid after outer less none empty entered deep =
     ∙ ap (λ n. weigh_from 0 (lexers_of before.outer ++ mid.lexer ∷ []) + scale n (room after.lexer)) inner
     ∙ ap (λ n. weigh_from 0 (lexers_of before.outer ++ mid.lexer ∷ []) + scale (14 - length (lexers_of before.outer)) n) all in
     let both = scale_sum (14 - length (lexers_of before.outer)) (16777218 * room mid.lexer) 16777217 in
-    let more =
-    scale_more (14 - length (lexers_of before.outer)) (16777218 * room mid.lexer + 16777217) (16777218 * room before.lexer)
+    let more = scale_more (14 - length (lexers_of before.outer)) (16777218 * room mid.lexer + 16777217) (16777218 * room before.lexer)
     (omega (arith, less)) in
     omega (arith, was, around, now, both, more)
 

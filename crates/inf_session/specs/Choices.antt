@@ -16,5 +16,4 @@ most_quoted o = number_of Setting.QuotedText o.settings
 
 -- the choices that the code's setup stands for
 abbrev pub chosen : Setup → Choices
-chosen s =
-    record { letters = s.letters; settings = s.settings.now; directories = map (λ d. d.now) s.directories.now }
+chosen s = record { letters = s.letters; settings = s.settings.now; directories = map (λ d. d.now) s.directories.now }

@@ -152,8 +152,7 @@ MakesPart f m limits was is old new before after fault =
 
 -- A step makes a part of the source, unless it had ended before.
 abbrev pub MakesStep : {R M B : Type 0} → Files R → Sink M → Limits → R → R → M → M → Session B → Session B → Option Fault → Type 0
-MakesStep f m limits was is old new before after fault =
-    Promised f was is before after fault
+MakesStep f m limits was is old new before after fault = Promised f was is before after fault
     (λ sources o start. ended before ≡ false → RunsPart f m limits was is old new before after sources o start)
     (λ failed sources o start e. ended before ≡ false → RunBreaks f m limits was is old new before after failed sources o start e)
     (Rose (m.failures old) (m.failures new))

@@ -38,8 +38,7 @@ pub record State : Type 0 where
 -- The setting that the first objects or the first low string alone would pass, which is told before the first token. Each story has
 -- four objects, whose property tables have 30 bytes and their addresses four references, and a low string of two bytes.
 abbrev pub tables_full : Settings → Option Setting
-tables_full settings =
-    if nat_lt (number_of Setting.Objects settings) 4 then Some Setting.Objects else
+tables_full settings = if nat_lt (number_of Setting.Objects settings) 4 then Some Setting.Objects else
     if nat_lt (number_of Setting.PropertyTables settings) 30 then Some Setting.PropertyTables else
     if nat_lt (number_of Setting.LowStrings settings) 2 then Some Setting.LowStrings else
     if nat_lt (number_of Setting.References settings) 4 then Some Setting.References else None
@@ -47,8 +46,7 @@ tables_full settings =
 -- the reading of the first token of a main source, and the work before it, for which the chosen letters hold
 abbrev pub begun_with : Choices → FileNames → ReaderState
 begun_with o names =
-    let s = begun_stand o.settings in
-    let w = letters_chosen o.letters s.work in
+    let s = begun_stand o.settings in let w = letters_chosen o.letters s.work in
     record s { work = record w { report = with_full names first_place (tables_full o.settings) w.report } }
 
 -- the state before the first token of the open files `n`, where the messages `told` were written
@@ -105,11 +103,10 @@ stepped limits o s =
 
 -- The state where the conditionals that are open in a file are told, at its end.
 abbrev pub file_closed : State → State
-file_closed s =
-    record s {
-      conditions = file_ended s.conditions;
-      work = record s.work { report = file_told s.nesting.names s.conditions s.work.report };
-    }
+file_closed s = record s {
+  conditions = file_ended s.conditions;
+  work = record s.work { report = file_told s.nesting.names s.conditions s.work.report };
+}
 
 -- The state where an included file is closed then, and reading goes on in the one that includes it, as that was.
 abbrev pub left_by : List Waiting → State → State
@@ -140,10 +137,9 @@ file_begun s = record s { conditions = with_among [] s.conditions; work = record
 
 -- the state where the file that an inclusion opens is the innermost, and is read by the character set of the one that includes it
 abbrev pub included_by : Sources → Choices → Place → List ℕ → Inclusion → State → State
-included_by sources o unit text (Opens name) s =
-    file_begun (record s {
-      nesting = with_opened s.nesting.cursor.set (most_quoted o) sources s.conditions.among s.work.is_system name s.nesting;
-    })
+included_by sources o unit text (Opens name) s = file_begun (record s {
+  nesting = with_opened s.nesting.cursor.set (most_quoted o) sources s.conditions.among s.work.is_system name s.nesting;
+})
 included_by sources o unit text (OpensNone why) s = none_included unit text why s
 
 -- the state where the file that the text of an inclusion names is entered, for a unit at a place
@@ -163,8 +159,7 @@ answered Nothing sources o s = s
 
 -- the state behind a token: behind a fatal message nothing is done, and at the end of a file nothing is asked
 abbrev pub carried_out : Sources → Choices → State → State
-carried_out sources o s =
-    if s.work.report.counts.is_over then s else
+carried_out sources o s = if s.work.report.counts.is_over then s else
     if is_mode_ended s.reading.mode then left s else answered s.work.asked sources o (asked_nothing s)
 
 -- whether the reading is between two directives, and in no conditional one
@@ -200,8 +195,7 @@ is_parted s = has_ended s || (is_between s.reading && may_part s.conditions)
 -- at most `n` turns, up to the end of a part
 abbrev pub part : Limits → Sources → Choices → ℕ → State → State
 part limits sources o zero s = s
-part limits sources o (suc n) s =
-    if has_ended s then s else
+part limits sources o (suc n) s = if has_ended s then s else
     if is_parted (turn limits sources o s) then turn limits sources o s else part limits sources o n (turn limits sources o s)
 
 -- at most `n` turns

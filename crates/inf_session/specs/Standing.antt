@@ -62,10 +62,8 @@ is_done s = ended s && is_none (next_of s)
 
 -- the first four objects and the first low string alone pass no setting
 abbrev pub HasObjects : Settings → Type 0
-HasObjects settings =
-    (4 ≤ number_of Setting.Objects settings) × (30 ≤ number_of Setting.PropertyTables settings) ×
-    (2 ≤ number_of Setting.LowStrings settings) ×
-    (4 ≤ number_of Setting.References settings)
+HasObjects settings = (4 ≤ number_of Setting.Objects settings) × (30 ≤ number_of Setting.PropertyTables settings) ×
+    (2 ≤ number_of Setting.LowStrings settings) × (4 ≤ number_of Setting.References settings)
 
 -- The bounds that hold wherever a source is read: no quoted token so far was longer than it may be, and, unless a fatal message
 -- came, there is room for the first four objects.

@@ -35,8 +35,7 @@ abbrev pub quoted_behind : Site → Filtered → SourceToken → ℕ → ℕ
 quoted_behind site j t quoted =
     if site.is_quiet || is_none j.token then quoted else if nat_lt quoted (quoted_bytes t) then quoted_bytes t else quoted
 
--- the conditionals behind a token, the reading of the next one and the compiled work, and the number of bytes of the longest
--- quoted token
+-- the conditionals behind a token, the reading of the next one and the compiled work, and the number of bytes of the longest quoted token
 pub record Taken : Type 0 where
   pub conditions : Conditions
   pub stand : ReaderState
@@ -46,8 +45,7 @@ pub record Taken : Type 0 where
 -- the reader takes the tokens that are handed on.
 abbrev pub token_taken : Limits → Context → SourceToken → Conditions → ReaderState → ℕ → Taken
 token_taken limits context t c s quoted =
-    let site = site_of context.settings s.reading in
-    let b = judged site s.work.output t c in
+    let site = site_of context.settings s.reading in let b = judged site s.work.output t c in
     record {
       conditions = silent b.now;
       stand = judged_taken limits context t b.judged (said_told limits b.now.said context s);

@@ -35,7 +35,6 @@ all_used quoted c w = map (used quoted c w) all_settings
 
 -- Counts of tokens, labels and references are within their settings.
 abbrev pub AreKept : Settings → ℕ → Conditions → Compilation → Type 0
-AreKept settings quoted c w =
-    (used quoted c w Setting.ExpressionNodes ≤ number_of Setting.ExpressionNodes settings) ×
+AreKept settings quoted c w = (used quoted c w Setting.ExpressionNodes ≤ number_of Setting.ExpressionNodes settings) ×
     (used quoted c w Setting.Labels ≤ number_of Setting.Labels settings) ×
     (used quoted c w Setting.References ≤ number_of Setting.References settings)

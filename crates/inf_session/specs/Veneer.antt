@@ -70,8 +70,7 @@ text_read limits o n s =
 -- The routines behind `n`, `left` of them at most, are read in their order, each where it is wanted, up to a fatal message.
 abbrev pub supplied_by : Limits → Choices → ℕ → ℕ → State → State
 supplied_by limits o zero n s = s
-supplied_by limits o (suc left) n s =
-    if s.work.report.counts.is_over then s else
+supplied_by limits o (suc left) n s = if s.work.report.counts.is_over then s else
     supplied_by limits o left (suc n) (if is_wanted (suc n) s.work.output.names then text_read limits o (suc n) s else s)
 
 -- the rest of the routines is read

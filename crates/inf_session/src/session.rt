@@ -131,8 +131,7 @@ impl<'a, B: Bounds> Session<'a, B> {
         requires is_open { length self.old.open_files.outer < F.depth files.old }
         requires goes { self.old.open_files.lexer.has_failed ≡ false }
         requires set { IsSet self.old }
-        ensures called { MakesPart F.Files M.Sink B.most files.old files.new messages.old messages.new self.old self.new
-            (fault_in result) }
+        ensures called { MakesPart F.Files M.Sink B.most files.old files.new messages.old messages.new self.old self.new (fault_in result) }
         ensures wrote { Wrote M.Sink messages.old messages.new (fault_in result) }
         ensures stepped { Stepped ended (λ s. weight s.open_files) files.old files.new messages.old messages.new self.old self.new result }
     {
@@ -164,11 +163,9 @@ impl<'a, B: Bounds> Session<'a, B> {
     ) -> (OpenFiles, Result<Compiled, Fault>)
         ensures files { result.0 ≡ self.entry.open_files }
         ensures ok { IfOk result.1 (λ compiled. Delivers (finished B.most serial.now self.entry.open_files.nest.names
-            (work_of self.entry.progress.work)) compiled
-            (M.taken messages.old) (M.taken messages.new)) }
+            (work_of self.entry.progress.work)) compiled (M.taken messages.old) (M.taken messages.new)) }
         ensures err { OnErr result.1 (TakesFront (finished B.most serial.now self.entry.open_files.nest.names
-            (work_of self.entry.progress.work)).messages
-            (M.taken messages.old) (M.taken messages.new)) }
+            (work_of self.entry.progress.work)).messages (M.taken messages.old) (M.taken messages.new)) }
         ensures errors { IfOk result.1 (λ compiled. compiled.status ≡ Status.Errors → compiled.story ≡ None) }
         ensures clean { IfOk result.1 (λ compiled. compiled.status ≡ Status.Success → EndsCleanOf B.most serial.now
             self.entry.open_files.nest.names (work_of self.entry.progress.work) (story_in compiled)
@@ -312,8 +309,7 @@ impl<'a, B: Bounds> Session<'a, B> {
         Ok(())
     }
 
-    /// Goes on behind a token: does as a directive asks, or leaves a file that has ended, and tells the conditionals that had to
-    /// end here.
+    /// Goes on behind a token: does as a directive asks, or leaves a file that has ended, and tells the conditionals that had to end here.
     fn follow<F: Files>(&mut self, files: &mut F, lost: &mut Option<Fault>) -> Result<(), Halt>
         requires is_open { length self.old.open_files.outer < F.depth files.old }
         requires goes { self.old.open_files.lexer.has_failed ≡ false }

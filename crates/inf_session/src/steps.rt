@@ -25,8 +25,7 @@ impl<'a, B: Bounds> Session<'a, B> {
         requires goes { self.old.open_files.lexer.has_failed ≡ false }
         requires set { IsSet self.old }
 
-        ensures called { MakesStep F.Files M.Sink B.most files.old files.new messages.old messages.new self.old self.new
-            (fault_in result) }
+        ensures called { MakesStep F.Files M.Sink B.most files.old files.new messages.old messages.new self.old self.new (fault_in result) }
         ensures wrote { Wrote M.Sink messages.old messages.new (fault_in result) }
         ensures stepped { Stepped is_done steps_left files.old files.new messages.old messages.new self.old self.new result }
         ensures goes { OnOk result (self.new.open_files.lexer.has_failed ≡ false) }

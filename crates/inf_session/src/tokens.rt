@@ -61,8 +61,7 @@ fn take_other<B: Bounds>(
     conditionals: &mut Conditionals,
     progress: &mut Progress<B>,
 ) -> Result<usize, AllocError>
-    ensures { let before = standing progress.old in
-        let t = spelled token.now in
+    ensures { let before = standing progress.old in let t = spelled token.now in
         let named = token_at (is_between before.reading) t.kind t.bytes t.place before.work in
         IfOk result (λ longest. record { conditions = conditionals.new; stand = standing progress.new; quoted = longest }
         ≡ token_taken B.most (handed context.now) named conditionals.old before quoted) }

@@ -68,8 +68,7 @@ impl<'a, B: Bounds> Session<'a, B> {
         ensures supplied { Supplies M.Sink (next_supplied B.most) messages.old messages.new self.old self.new (fault_in result) }
         ensures came { IfOk result (λ was_read. was_read ≡ is_some (next_of self.old)) }
         ensures behind { IfOk result (λ was_read. was_read ≡ true → (self.old.passed < self.new.passed) × (self.new.passed ≤ most_texts)) }
-        ensures same { is_some (next_of self.old) ≡ false →
-            (result ≡ Ok false) × ((self.new ≡ self.old) × (messages.new ≡ messages.old)) }
+        ensures same { is_some (next_of self.old) ≡ false → (result ≡ Ok false) × ((self.new ≡ self.old) × (messages.new ≡ messages.old)) }
         ensures ended { ended self.old ≡ true → OnOk result (ended self.new ≡ true) }
         ensures longest { let most = most_quoted (chosen self.old.setup) in self.old.quoted ≤ most → OnOk result (self.new.quoted ≤ most) }
     {

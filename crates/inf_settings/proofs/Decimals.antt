@@ -20,8 +20,7 @@ capped_alike n m (d ∷ ds) same =
 
 digit_next : (n d : ℕ) (ds : List ℕ) → 48 ≤ d → d ≤ 57 → capped (decimal_from n (d ∷ ds)) ≡ capped (decimal_from (n * 10 + (d - 48)) ds)
 digit_next n d ds low high =
-    let is : (nat_le 48 d && nat_le d 57) ≡ true = grind (arith, nat_tests, low, high) in
-    rw is refl
+    let is : (nat_le 48 d && nat_le d 57) ≡ true = grind (arith, nat_tests, low, high) in rw is refl
 
 stops : (n d next : ℕ) → next ≡ min (min (n * 10) greatest + (d - 48)) greatest → min next greatest ≡ min (n * 10 + (d - 48)) greatest
 stops n d next is = omega (arith, is)
@@ -37,5 +36,4 @@ decimal_next n next ds i within low high is = rw (add-one, drop-cons ds i 0 with
 -- the number is the one that was reached once all digits are read
 pub decimal_end : (n : ℕ) (ds : List ℕ) (i : ℕ) → length ds ≤ i → n ≤ greatest → capped (decimal_from n (drop i ds)) ≡ Some n
 decimal_end n ds i past small =
-    let least : min n greatest ≡ n = omega (arith, small) in
-    rw (drop_all i ds past, least) refl
+    let least : min n greatest ≡ n = omega (arith, small) in rw (drop_all i ds past, least) refl

@@ -1,6 +1,6 @@
 -- The outcome of an inclusion, by the outcome of opening a file beside the open ones.
 use Rattle.std.proofs.Common.{◌≡◌, ◌⊎◌, inl, inr, ℕ, suc, ◌+◌, ◌-◌, ◌<◌, ◌≤◌, List, [], ◌∷◌, ◌++◌, length, drop, reverse, cond, not, nat_le}
-use Rattle.std.proofs.Common.{Bool, true, false, Option, Some, unwrap_or, Ok, refl, sym, ap, subst, ◌∙◌, arith, length-append, slice_get}
+use Rattle.std.proofs.Common.{Bool, true, false, Option, Some, unwrap_or, Ok, refl, sym, ap, ◌∙◌, arith, length-append, slice_get}
 use Rattle.std.proofs.Common.{Vec}
 use Rattle.std.proofs.{lemmas.Bool.le-leb, lemmas.Bool.lt-leb, lemmas.List.length-reverse}
 use Rattle.std.specs.declared.alloc.Global.{Global}
@@ -34,8 +34,7 @@ abbrev pub IsNumbered : Open → Type 0
 IsNumbered files = files.nest.open_files ≡ files_of (lexers_of files.outer) ++ files.lexer.file ∷ []
 
 pub same_name : (files : Open) → IsNumbered files → innermost_name files.nest ≡ unwrap_or (slice_get files.nest.names files.lexer.file) []
-same_name files e =
-    ap (λ (fs : List ℕ). name_at (slice_get fs (length fs - 1)) files.nest.names) e
+same_name files e = ap (λ (fs : List ℕ). name_at (slice_get fs (length fs - 1)) files.nest.names) e
     ∙ ap (λ (o : Option ℕ). name_at o files.nest.names) (last_file (files_of (lexers_of files.outer)) files.lexer.file)
 
 same_depth : (s : Sources) (start now : Openings) (files : Open) → IsNested start now files → IsNumbered files
@@ -52,15 +51,12 @@ abbrev by_tests : (can deep : Bool) → Option (List ℕ) → Inclusion
 by_tests can deep first = cond (not can) (OpensNone Included.NotThere) (cond deep (OpensNone Included.TooDeep) (by_first first))
 
 tested : (s : Sources) (directories : List (List ℕ)) (text : List ℕ) (start now : Openings) (files : Open) → IsNested start now files →
-    IsNumbered files
-    → inclusion s directories text (nesting s start now files)
+    IsNumbered files → inclusion s directories text (nesting s start now files)
     ≡ by_tests (can_name text) (nat_le 16 (length files.nest.open_files))
     (first_there s (candidates directories (innermost_name files.nest) text))
-tested s directories text start now files n e =
-    ap (λ (k : ℕ). by_tests (can_name text) (nat_le 16 k)
+tested s directories text start now files n e = ap (λ (k : ℕ). by_tests (can_name text) (nat_le 16 k)
     (first_there s (candidates directories (unwrap_or (slice_get files.nest.names files.lexer.file) []) text)))
-    (sym (same_depth s start now files n e))
-    ∙ ap (λ (name : List ℕ). by_tests (can_name text) (nat_le 16 (length files.nest.open_files))
+    (sym (same_depth s start now files n e)) ∙ ap (λ (name : List ℕ). by_tests (can_name text) (nat_le 16 (length files.nest.open_files))
     (first_there s (candidates directories name text))) (sym (same_name files e))
 
 -- Lemmas about the outcome of an inclusion
@@ -120,12 +116,10 @@ includes_none set limit s conditionals is_system {was = was} comes same =
 pub entered_is : (s : Sources) (start old new : Openings) (before : Open) (name : List ℕ) (nest : Nest) (lexer : Reader)
     (outer : List OpenFile) (conditionals : Vec Conditional Global) (is_system : Bool) → IsNested start old before
     → new ≡ with_opened name old → nest ≡ entered name before.nest → lexer ≡ at_front before.nest.set before.nest.limit
-    (number_of name before.nest.names)
-    → outer ≡ before.outer ++ waits before.lexer conditionals is_system ∷ []
+    (number_of name before.nest.names) → outer ≡ before.outer ++ waits before.lexer conditionals is_system ∷ []
     → nesting s start new (record { nest = nest; lexer = lexer; outer = outer }) ≡ nested_by before.nest.set before.nest.limit s
     (reverse conditionals.items) is_system (Opens name) (nesting s start old before)
-entered_is s start old new before name nest lexer outer conditionals is_system n opens enters fronts more =
-    rw (opens, enters, fronts, more)
+entered_is s start old new before name nest lexer outer conditionals is_system n opens enters fronts more = rw (opens, enters, fronts, more)
     (entered_nesting s start old before name before.nest.set before.nest.limit conditionals is_system n)
 
 pub entered_nested_of : (start old new : Openings) (before : Open) (name : List ℕ) (nest : Nest) (lexer : Reader) (outer : List OpenFile)
@@ -138,8 +132,7 @@ entered_nested_of start old new before name nest lexer outer f waits n opens mor
 -- the numbers and settings of the open files behind a file that was entered
 pub entered_fits : (nest after : Nest) (outer new : List OpenFile) (f : OpenFile) (lexer : Reader) (name : List ℕ) →
     nest.open_files ≡ files_of (lexers_of outer) ++ f.lexer.file ∷ []
-    → AllWait nest.set nest.limit (lexers_of outer) → Waits nest.set nest.limit f.lexer → new ≡ outer ++ f ∷ []
-    → after ≡ entered name nest
+    → AllWait nest.set nest.limit (lexers_of outer) → Waits nest.set nest.limit f.lexer → new ≡ outer ++ f ∷ [] → after ≡ entered name nest
     → lexer ≡ at_front nest.set nest.limit (number_of name nest.names) → Fits after lexer (lexers_of new)
 entered_fits nest after outer new f lexer name files all w e enters fronts =
     let readers : List Reader = lexers_of outer in

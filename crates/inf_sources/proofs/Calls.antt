@@ -1,5 +1,5 @@
 -- Facts that calls keep: one behind the other, and each kind of them.
-use Rattle.std.proofs.Common.{◌≡◌, ◌+◌, ◌-◌, ◌≤◌, inl, inr, ℕ, true, false, suc, List, [], ◌∷◌, ◌++◌, length, min, Bool, IsTrue, refl, sym}
+use Rattle.std.proofs.Common.{◌≡◌, ◌≤◌, inl, inr, ℕ, true, false, List, [], ◌∷◌, ◌++◌, length, min, Bool, IsTrue, refl, sym}
 use Rattle.std.proofs.Common.{ap}
 use Rattle.std.proofs.Common.{subst, ◌∙◌, arith, length-append, drop, map, reverse}
 use Rattle.std.proofs.{Math.Path.subst⁻¹, lemmas.List.reverse-append}
@@ -8,7 +8,7 @@ use Rattle.inf_devices.specs.Files.{Counts, Sources, counts_closed, counts_opene
 use Rattle.inf_devices.specs.declared.files.Files.{Ghosts as Files}
 use Rattle.inf_lexer.specs.{Counted.CountsOn, Counted.IsCountedBy, Entering.ClosesInnermost, Entering.OpensOn, Entering.Tries, Names.Nest}
 use Rattle.inf_lexer.specs.{Names.number_of, Readers.Reader, Reading.ReadsOn}
-use Rattle.inf_lexer.proofs.{Opened.opens_none, Opened.opens_then, Reading.reads_none, Reading.reads_then, Reading.unless_as}
+use Rattle.inf_lexer.proofs.{Opened.opens_none, Opened.opens_then, Reading.unless_as}
 use Rattle.inf_sources.specs.{Open.AllGiven, Open.IsNested, Open.Open, Open.lexers_of, declared.open_file.OpenFile.OpenFile}
 use Rattle.inf_sources.specs.Calls.{AreCounted, AskedTooMany, Honestly, IsUnreadable, ReadsFile, StaysFit, StaysGiven, Went, given_each}
 use Rattle.inf_sources.proofs.{Fronts.left_given, Fronts.read_fit, Fronts.read_given, Nestings.left_nested, Nestings.nested_on}
@@ -31,34 +31,31 @@ counted_least base (g ∷ gs) (n ∷ counts) too_long was = counted_least base g
 -- more was read of the innermost file
 counted_read : (base : ℕ) (old new : Counts) (before after : ℕ) (gs : List ℕ) → CountsOn old new before after
     → AreCounted base (before ∷ gs) old.each old.too_long → AreCounted base (after ∷ gs) new.each new.too_long
-counted_read base old new before after gs on was = by_each old.each refl was
-  where
-    by_each : (each : List ℕ) → old.each ≡ each → AreCounted base (before ∷ gs) each old.too_long
-        → AreCounted base (after ∷ gs) new.each new.too_long
-    by_each [] e h = absurd h
-    by_each (n ∷ outer) e h =
-        let now : IsCountedBy new outer base after = on.stays outer base (record {
-          count = n;
-          is = e;
-          within = h.0.0;
-          least = counted_least base gs outer old.too_long h.1;
-          too_long = h.0.1;
-        }) in
-        subst (λ (each : List ℕ). AreCounted base (after ∷ gs) each new.too_long) (sym now.is)
-        ((now.within, now.too_long), counted_more base gs outer old.too_long new.too_long on.too_long h.1)
+counted_read base old new before after gs on was = by_each old.each refl was where
+  by_each : (each : List ℕ) → old.each ≡ each → AreCounted base (before ∷ gs) each old.too_long
+      → AreCounted base (after ∷ gs) new.each new.too_long
+  by_each [] e h = absurd h
+  by_each (n ∷ outer) e h =
+      let now : IsCountedBy new outer base after = on.stays outer base (record {
+        count = n;
+        is = e;
+        within = h.0.0;
+        least = counted_least base gs outer old.too_long h.1;
+        too_long = h.0.1;
+      }) in
+      subst (λ (each : List ℕ). AreCounted base (after ∷ gs) each new.too_long) (sym now.is)
+      ((now.within, now.too_long), counted_more base gs outer old.too_long new.too_long on.too_long h.1)
 
 -- a file was entered, and nothing was read of it
 counted_in : (base : ℕ) (old new : Counts) (gs hs : List ℕ) → new ≡ counts_opened old → hs ≡ 0 ∷ gs
     → AreCounted base gs old.each old.too_long → AreCounted base hs new.each new.too_long
-counted_in base old new gs hs counts given was =
-    subst (λ (c : Counts). AreCounted base hs c.each c.too_long) (sym counts)
+counted_in base old new gs hs counts given was = subst (λ (c : Counts). AreCounted base hs c.each c.too_long) (sym counts)
     (subst (λ (xs : List ℕ). AreCounted base xs (0 ∷ old.each) old.too_long) (sym given) ((omega arith, λ over. omega (arith, over)), was))
 
 -- the innermost file was left
 counted_out : (base : ℕ) (old new : Counts) (gs hs : List ℕ) (g : ℕ) → new ≡ counts_closed old → gs ≡ g ∷ hs
     → AreCounted base gs old.each old.too_long → AreCounted base hs new.each new.too_long
-counted_out base old new gs hs g counts given was =
-    subst (λ (c : Counts). AreCounted base hs c.each c.too_long) (sym counts)
+counted_out base old new gs hs g counts given was = subst (λ (c : Counts). AreCounted base hs c.each c.too_long) (sym counts)
     (by_each old.each (subst (λ (xs : List ℕ). AreCounted base xs old.each old.too_long) given was))
   where
     by_each : (each : List ℕ) → AreCounted base (g ∷ hs) each old.too_long → AreCounted base hs (drop 1 each) old.too_long
@@ -121,8 +118,7 @@ went_then f a b c x y z p q =
     }
 
 pub fit_then : {S : Type 0} (f : Files S) (a b c : S) (x y : Open) → Went f a b x y → StaysFit f a b x → StaysFit f b c y → StaysFit f a c x
-fit_then f a b c x y w p q = λ honest start n given fit.
-    q (subst (λ t. IsTrue t) (sym w.honesty) honest) start (w.nested honest start n)
+fit_then f a b c x y w p q = λ honest start n given fit. q (subst (λ t. IsTrue t) (sym w.honesty) honest) start (w.nested honest start n)
     (subst (λ (s : Sources). AllGiven s (length start.all) (f.openings b) y) (sym w.sources) (w.stays_given honest start n given))
     (p honest start n given fit)
 
@@ -154,45 +150,17 @@ reads_file {f = f} {failed = failed} {old = old} {new = new} {nest = nest} {befo
             (map (λ (r : Reader). r.window.given) (lexers_of (reverse outer))) on.counts was;
         opened = subst⁻¹ (λ (names : List (List ℕ)). OpensOn nest.names nest.names (f.opened old) names) on.opened
             (opens_none nest.names (f.opened old));
-        nested = λ honest start n.
-            nested_on start (f.openings old) (f.openings new) (record { nest = nest; lexer = before; outer = outer })
+        nested = λ honest start n. nested_on start (f.openings old) (f.openings new) (record { nest = nest; lexer = before; outer = outer })
             (record { nest = nest; lexer = after; outer = outer }) n (on.gave honest).places (on.gave honest).count refl;
         stays_given = λ honest start n given. read_given after on file honest n given;
       };
       on = on;
-      opened = λ honest start n.
-          opened_as_before (f.sources old) start (f.openings old) (f.openings new) on.bytes (on.gave honest);
+      opened = λ honest start n. opened_as_before (f.sources old) start (f.openings old) (f.openings new) on.bytes (on.gave honest);
       fits = unless_as failed (λ few honest start n given fit. read_fit after on file honest n given few fit) on.few;
       nest = refl;
       outer = refl;
       file = file;
     }
-
--- no call, and one behind another
-pub reads_file_none : {S : Type 0} {f : Files S} {s : S} {files : Open} → files.lexer.window.given ≤ 16777216
-    → length files.lexer.window.left ≤ 4096 → ReadsFile f false s s files files
-reads_file_none {f = f} {s = s} {files = files} few window = record {
-  went = went_none f s files;
-  on = reads_none few window;
-  opened = λ honest start n. refl;
-  fits = fit_none f s files;
-  nest = refl;
-  outer = refl;
-  file = refl;
-}
-
-pub reads_file_then : {S : Type 0} {f : Files S} {failed : Bool} {a b c : S} {x y z : Open} → ReadsFile f false a b x y
-    → ReadsFile f failed b c y z → ReadsFile f failed a c x z
-reads_file_then {f = f} {failed = failed} {a = a} {b = b} {c = c} {x = x} {y = y} {z = z} p q = record {
-  went = went_then f a b c x y z p.went q.went;
-  on = reads_then p.on q.on;
-  opened = λ honest start n.
-      q.opened (p.went.honesty ∙ honest) start (p.went.nested honest start n) ∙ p.opened honest start n;
-  fits = unless_as failed (λ fit. fit_then f a b c x y p.went p.fits fit) q.fits;
-  nest = q.nest ∙ p.nest;
-  outer = q.outer ∙ p.outer;
-  file = q.file ∙ p.file;
-}
 
 -- A file was entered.
 pub went_in : {S : Type 0} {f : Files S} {failed : Bool} {old new : S} {before after : Open} → Tries f true failed old new

@@ -1,20 +1,18 @@
 -- The open files where all files are read by another character set.
 use Rattle.std.proofs.{lemmas.Grind.reverse_onto, lemmas.List.length-map, lemmas.List.map-append}
-use Rattle.std.proofs.Common.{◌≡◌, ℕ, suc, ◌+◌, List, [], ◌∷◌, ◌++◌, length, drop, map, reverse, refl, sym, ap, subst, ◌∙◌}
+use Rattle.std.proofs.Common.{◌≡◌, ℕ, suc, List, [], ◌∷◌, ◌++◌, length, drop, map, reverse, refl, sym, ap, subst, ◌∙◌}
 use Rattle.inf_characters.specs.declared.characters.CharSet.{CharSet}
 use Rattle.inf_devices.specs.Files.{Opening, Openings, Sources}
 use Rattle.inf_lexer.specs.Readers.{Reader}
 use Rattle.inf_sources.specs.{Calls.given_each, Inclusions.Waiting, declared.open_file.OpenFile.OpenFile}
-use Rattle.inf_sources.specs.Choosing.{chosen, file_with, nesting_with, open_with, reader_with, waiting_with}
+use Rattle.inf_sources.specs.Choosing.{file_with, nesting_with, open_with, reader_with, waiting_with}
 use Rattle.inf_sources.specs.Open.{AllGiven, AllWait, AreNested, AreTracked, IsNested, Open, files_of, lexers, lexers_of, nesting}
 use Rattle.inf_sources.specs.Open.{waiting_at}
-use Rattle.inf_sources.proofs.Places.{nested_as}
 
 -- mapping each item backwards is mapping all and turning them
 reverse_each : {X : Type 0} → (f : X → X) (xs : List X) → reverse (map f xs) ≡ map f (reverse xs)
 reverse_each f [] = refl
-reverse_each f (x ∷ xs) =
-    reverse_onto (map f xs) (f x) [] ∙ ap (λ ys. ys ++ f x ∷ []) (reverse_each f xs)
+reverse_each f (x ∷ xs) = reverse_onto (map f xs) (f x) [] ∙ ap (λ ys. ys ++ f x ∷ []) (reverse_each f xs)
     ∙ sym (ap (map f) (reverse_onto xs x []) ∙ map-append f (reverse xs) (x ∷ []))
 
 -- Lemmas about the lexers that read by another set
@@ -24,8 +22,7 @@ readers_with set [] = refl
 readers_with set (f ∷ files) = ap (λ rs. reader_with set f.lexer ∷ rs) (readers_with set files)
 
 lexers_with : (set : CharSet) (o : Open) → lexers (open_with set o) ≡ map (reader_with set) (lexers o)
-lexers_with set o =
-    ap (λ (fs : List OpenFile). reader_with set o.lexer ∷ lexers_of fs) (reverse_each (file_with set) o.outer)
+lexers_with set o = ap (λ (fs : List OpenFile). reader_with set o.lexer ∷ lexers_of fs) (reverse_each (file_with set) o.outer)
     ∙ ap (λ rs. reader_with set o.lexer ∷ rs) (readers_with set (reverse o.outer))
 
 files_with : (set : CharSet) (readers : List Reader) → files_of (map (reader_with set) readers) ≡ files_of readers
@@ -103,28 +100,4 @@ all_given_with set s n now o all = record {
   each = all.each;
   tracked = subst (AreTracked s n o.nest.names now.all (reverse now.open_places)) (sym (lexers_with set o))
       (tracked_each set s n o.nest.names now.all (reverse now.open_places) (lexers o) all.tracked);
-}
-
--- Lemmas about the innermost file alone
-
-pub is_nested_chosen : (set : CharSet) (limit : ℕ) (start now : Openings) (o : Open) → IsNested start now o
-    → IsNested start now (chosen set limit o)
-is_nested_chosen set limit start now o n = record {
-  more = n.more;
-  nested = nested_as (length now.all) (reverse now.open_places) o.lexer (chosen set limit o).lexer (lexers_of (reverse o.outer)) n.nested;
-  others = n.others;
-}
-
-tracked_chosen : (set : CharSet) (limit : ℕ) (s : Sources) (n : ℕ) (names : List (List ℕ)) (all : List Opening) (places : List ℕ)
-    (r : Reader) (readers : List Reader) → AreTracked s n names all places (r ∷ readers)
-    → AreTracked s n names all places (record r { set = set; limit = limit } ∷ readers)
-tracked_chosen set limit s n names all [] r readers h = absurd h
-tracked_chosen set limit s n names all (p ∷ places) r readers h =
-    (record { behind = h.0.behind; named = h.0.named; counted = h.0.counted }, h.1)
-
-pub all_given_chosen : (set : CharSet) (limit : ℕ) (s : Sources) (n : ℕ) (now : Openings) (o : Open) → AllGiven s n now o
-    → AllGiven s n now (chosen set limit o)
-all_given_chosen set limit s n now o all = record {
-  each = all.each;
-  tracked = tracked_chosen set limit s n o.nest.names now.all (reverse now.open_places) o.lexer (lexers_of (reverse o.outer)) all.tracked;
 }

@@ -44,8 +44,7 @@ none_wait s all (p ∷ places) = refl
 
 -- The numbers and the settings of the open files behind one that was left.
 abbrev pub Fits : Nest → Reader → List Reader → Type 0
-Fits nest r readers =
-    (nest.open_files ≡ files_of readers ++ r.file ∷ []) ×
+Fits nest r readers = (nest.open_files ≡ files_of readers ++ r.file ∷ []) ×
     ((r.set ≡ nest.set) × ((r.limit ≡ nest.limit) × AllWait nest.set nest.limit readers))
 
 pub left_fits : (nest after : Nest) (outer readers : List Reader) (file : ℕ) (r : Reader) → nest.open_files ≡ files_of outer ++ file ∷ []
@@ -60,8 +59,7 @@ left_fits nest after outer readers file r files waits e is =
 
 -- leaving the last file changes nothing
 pub left_none : (s : Sources) (start now : Openings) (nest : Nest) (lexer : Reader) (old new : List OpenFile) → length old ≡ 0 →
-    old ≡ new ++ []
-    → nesting s start now (record { nest = nest; lexer = lexer; outer = new }) ≡ closed
+    old ≡ new ++ [] → nesting s start now (record { nest = nest; lexer = lexer; outer = new }) ≡ closed
     (nesting s start now (record { nest = nest; lexer = lexer; outer = old }))
 left_none s start now nest lexer (f ∷ old) new none e = absurd (omega (arith, none))
 left_none s start now nest lexer [] (f ∷ new) none e = cc

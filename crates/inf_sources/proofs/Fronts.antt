@@ -19,16 +19,14 @@ same_place : (i at : ℕ) → (i ≡ at) ⊎ (i ≡ at → ⊥)
 same_place zero zero = inl refl
 same_place zero (suc at) = inr (λ e. absurd (omega (arith, e)))
 same_place (suc i) zero = inr (λ e. absurd (omega (arith, e)))
-same_place (suc i) (suc at) = next (same_place i at)
-  where
-    next : (i ≡ at) ⊎ (i ≡ at → ⊥) → (suc i ≡ suc at) ⊎ (suc i ≡ suc at → ⊥)
-    next (inl e) = inl (ap suc e)
-    next (inr other) = inr (λ e. other (omega (arith, e)))
+same_place (suc i) (suc at) = next (same_place i at) where
+  next : (i ≡ at) ⊎ (i ≡ at → ⊥) → (suc i ≡ suc at) ⊎ (suc i ≡ suc at → ⊥)
+  next (inl e) = inl (ap suc e)
+  next (inr other) = inr (λ e. other (omega (arith, e)))
 
 -- the bytes given and the next ones are a front
 next_front : (s : Sources) (old new : Opening) (bytes : List ℕ) → IsFrontOf s old → unread_of s old ≡ bytes ++ unread_of s new →
-    new.given ≡ old.given ++ bytes
-    → new.name ≡ old.name → IsFrontOf s new
+    new.given ≡ old.given ++ bytes → new.name ≡ old.name → IsFrontOf s new
 next_front s old new bytes front next given name =
     ap (λ (x : List ℕ). unwrap_or (s x) []) name ∙ front ∙ ap (λ (x : List ℕ). old.given ++ x) next
     ∙ sym (append_assoc old.given bytes (unread_of s new)) ∙ ap (λ (x : List ℕ). x ++ unread_of s new) (sym given)
@@ -59,15 +57,14 @@ tracked_same s n known names old new bound (p ∷ places) (r ∷ readers) stay h
 -- a statement holds of each opening where it held of each before, and holds of the innermost one now
 read_each : (P : Opening → Type 0) (s : Sources) (n : ℕ) (old new : Openings) (bytes : List ℕ) → Gave s old new bytes → P (innermost new) →
     Each P n old.all → Each P n new.all
-read_each P s n old new bytes gave here each = λ i le lt. at i le lt (same_place i (innermost_place old))
-  where
-    place : innermost_place new ≡ innermost_place old
-    place = ap (λ (ps : List ℕ). get_or ps (length ps - 1) 0) gave.places
+read_each P s n old new bytes gave here each = λ i le lt. at i le lt (same_place i (innermost_place old)) where
+  place : innermost_place new ≡ innermost_place old
+  place = ap (λ (ps : List ℕ). get_or ps (length ps - 1) 0) gave.places
 
-    at : (i : ℕ) → n ≤ i → i < length new.all → (i ≡ innermost_place old) ⊎ (i ≡ innermost_place old → ⊥) → P (get_or new.all i (opened []))
-    at i le lt (inl e) = subst (λ (k : ℕ). P (get_or new.all k (opened []))) (place ∙ sym e) here
-    at i le lt (inr other) =
-        subst (λ (o : Opening). P o) (sym (or_same old.all new.all i (gave.others i other))) (each i le (omega (arith, lt, gave.count)))
+  at : (i : ℕ) → n ≤ i → i < length new.all → (i ≡ innermost_place old) ⊎ (i ≡ innermost_place old → ⊥) → P (get_or new.all i (opened []))
+  at i le lt (inl e) = subst (λ (k : ℕ). P (get_or new.all k (opened []))) (place ∙ sym e) here
+  at i le lt (inr other) =
+      subst (λ (o : Opening). P o) (sym (or_same old.all new.all i (gave.others i other))) (each i le (omega (arith, lt, gave.count)))
 
 -- the innermost file was read on, by a lexer that is `r` then
 module _ {S : Type 0} {f : Files S} {failed : Bool} {a b : S} {nest : Nest} {q : Reader} {outer : List OpenFile} {start : Openings}
@@ -85,8 +82,7 @@ module _ {S : Type 0} {f : Files S} {failed : Bool} {a b : S} {nest : Nest} {q :
 
   was : AreTracked (f.sources a) (length start.all) nest.names (f.openings a).all (at.place ∷ at.rest) (q ∷ lexers_of (reverse outer))
   was = subst (λ (ps : List ℕ). AreTracked (f.sources a) (length start.all) nest.names (f.openings a).all ps
-      (q ∷ lexers_of (reverse outer)))
-      at.is given.tracked
+      (q ∷ lexers_of (reverse outer))) at.is given.tracked
 
   -- the innermost file is still tracked
   first : IsTracked (f.sources a) (length start.all) nest.names (f.openings b).all at.place r
@@ -120,8 +116,7 @@ module _ {S : Type 0} {f : Files S} {failed : Bool} {a b : S} {nest : Nest} {q :
       let front : IsFrontOf (f.sources a) (innermost (f.openings b)) =
       next_front (f.sources a) (innermost (f.openings a)) (innermost (f.openings b)) on.bytes
       (given.each (innermost_place (f.openings a)) (omega (arith, place, was.0.behind))
-      (omega (arith, place, at.less))) gave.next gave.given
-      gave.name in
+      (omega (arith, place, at.less))) gave.next gave.given gave.name in
       record {
         each = read_each (IsFrontOf (f.sources a)) (f.sources a) (length start.all) (f.openings a) (f.openings b) on.bytes gave front
             given.each;
@@ -141,23 +136,21 @@ module _ {S : Type 0} {f : Files S} {failed : Bool} {a b : S} {nest : Nest} {q :
 
 each_more : (P : Opening → Type 0) (n : ℕ) (all : List Opening) (name : List ℕ) → P (opened name) → Each P n all →
     Each P n (all ++ opened name ∷ [])
-each_more P n all name here each = λ i le lt. at i le lt (same_place i (length all))
-  where
-    at : (i : ℕ) → n ≤ i → i < length (all ++ opened name ∷ []) → (i ≡ length all) ⊎ (i ≡ length all → ⊥) →
-        P (get_or (all ++ opened name ∷ []) i (opened []))
-    at i le lt (inl e) =
-        subst (λ (o : Opening). P o) (sym (ap (λ (k : ℕ). get_or (all ++ opened name ∷ []) k (opened [])) e ∙ get_or-append_seam all
-        (opened name) [] (opened []))) here
-    at i le lt (inr other) =
-        let less : i < length all = front i lt other in
-        subst (λ (o : Opening). P o) (sym (or_same all (all ++ opened name ∷ []) i (slice_front all (opened name) i less))) (each i le less)
-      where
-        front : (i : ℕ) → i < length (all ++ opened name ∷ []) → (i ≡ length all → ⊥) → i < length all
-        front i lt other = by (cases_lt i (length all))
-          where
-            by : (i < length all) ⊎ (length all ≤ i) → i < length all
-            by (inl less) = less
-            by (inr more) = absurd (other (omega (arith, lt, more, length-append all (opened name ∷ []))))
+each_more P n all name here each = λ i le lt. at i le lt (same_place i (length all)) where
+  at : (i : ℕ) → n ≤ i → i < length (all ++ opened name ∷ []) → (i ≡ length all) ⊎ (i ≡ length all → ⊥) →
+      P (get_or (all ++ opened name ∷ []) i (opened []))
+  at i le lt (inl e) =
+      subst (λ (o : Opening). P o) (sym (ap (λ (k : ℕ). get_or (all ++ opened name ∷ []) k (opened [])) e ∙ get_or-append_seam all
+      (opened name) [] (opened []))) here
+  at i le lt (inr other) =
+      let less : i < length all = front i lt other in
+      subst (λ (o : Opening). P o) (sym (or_same all (all ++ opened name ∷ []) i (slice_front all (opened name) i less))) (each i le less)
+    where
+      front : (i : ℕ) → i < length (all ++ opened name ∷ []) → (i ≡ length all → ⊥) → i < length all
+      front i lt other = by (cases_lt i (length all)) where
+        by : (i < length all) ⊎ (length all ≤ i) → i < length all
+        by (inl less) = less
+        by (inr more) = absurd (other (omega (arith, lt, more, length-append all (opened name ∷ []))))
 
 pub fit_more : (n : ℕ) (all : List Opening) (name : List ℕ) → Each Fits n all → Each Fits n (all ++ opened name ∷ [])
 fit_more n all name fit = each_more Fits n all name (omega arith) fit
@@ -179,14 +172,12 @@ tracked_new s n all name nest set limit behind =
     }
 
 pub entered_given : (s : Sources) (start old new : Openings) (before after : Open) (name : List ℕ) (set : CharSet) (limit : ℕ) →
-    IsNested start old before
-    → new ≡ with_opened name old → after.nest ≡ entered name before.nest → after.lexer ≡ at_front set limit
+    IsNested start old before → new ≡ with_opened name old → after.nest ≡ entered name before.nest → after.lexer ≡ at_front set limit
     (number_of name before.nest.names)
     → (f : OpenFile) → f.lexer ≡ before.lexer → after.outer ≡ before.outer ++ f ∷ [] → AllGiven s (length start.all) old before →
     AllGiven s (length start.all) new after
 entered_given s start old new before after name set limit nested opens nest fronts f waits outer given =
-    let n : ℕ = length start.all in
-    let all : List Opening = old.all ++ opened name ∷ [] in
+    let n : ℕ = length start.all in let all : List Opening = old.all ++ opened name ∷ [] in
     let names : List (List ℕ) = (entered name before.nest).names in
     let front : Reader = at_front set limit (number_of name before.nest.names) in
     let rest : AreTracked s n names all (reverse old.open_places) (lexers before) =
@@ -208,8 +199,7 @@ pub main_given : (s : Sources) (old new : Openings) (files : Open) (name : List 
     → files.nest ≡ entered name nest → files.lexer ≡ at_front set limit (number_of name nest.names) → files.outer ≡ [] → AllGiven s
     (length old.all) new files
 main_given s old new files name nest set limit opens enters fronts outer =
-    let n : ℕ = length old.all in
-    let all : List Opening = old.all ++ opened name ∷ [] in
+    let n : ℕ = length old.all in let all : List Opening = old.all ++ opened name ∷ [] in
     let front : Reader = at_front set limit (number_of name nest.names) in
     subst (λ (o : Openings). AllGiven s n o files) (sym opens) (record {
       each = each_more (IsFrontOf s) n old.all name refl (λ i le lt. absurd (omega (arith, le, lt)));
@@ -219,8 +209,7 @@ main_given s old new files name nest set limit opens enters fronts outer =
 
 -- one more opening, which was closed at once
 closed_given : (s : Sources) (start old : Openings) (files : Open) (name : List ℕ) → IsNested start old files →
-    AllGiven s (length start.all) old files
-    → AllGiven s (length start.all) (with_closed name old) files
+    AllGiven s (length start.all) old files → AllGiven s (length start.all) (with_closed name old) files
 closed_given s start old files name nested given = record {
   each = each_more (IsFrontOf s) (length start.all) old.all name refl given.each;
   tracked = tracked_same s (length start.all) files.nest.names files.nest.names old.all (old.all ++ opened name ∷ []) (length old.all)
@@ -254,7 +243,4 @@ left_given s start old new before after nested closes f outer back names given =
     ∙ ap (λ (r : Reader). r ∷ lexers_of (reverse after.outer)) (sym back) in
     let was : AreTracked s n before.nest.names old.all (closes.place ∷ reverse new.open_places) (lexers before) =
     subst (λ (ps : List ℕ). AreTracked s n before.nest.names old.all ps (lexers before)) places given.tracked in
-    record {
-      each = rw closes.same given.each;
-      tracked = rw (names, closes.same, ← readers) was.1;
-    }
+    record { each = rw closes.same given.each; tracked = rw (names, closes.same, ← readers) was.1 }

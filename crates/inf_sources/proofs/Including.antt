@@ -32,8 +32,7 @@ open_same {nest = nest} {lexer = lexer} {more = more} names files =
 
 pub went_failed : {S : Type 0} {f : Files S} {old new : S} {names : List (List ℕ)} {before after : Open} {fault : EnterFault}
     → Attempts f old new names before.nest after.nest (Err fault) → after ≡ before → Went f old new before after
-went_failed {f = f} {old = old} {new = new} {names = names} {before = before} {fault = fault} t same =
-    went_by t.tries t.opened same
+went_failed {f = f} {old = old} {new = new} {names = names} {before = before} {fault = fault} t same = went_by t.tries t.opened same
     (λ honest start n. failed_nested (f.sources old) before.nest.names names start (f.openings old) (f.openings new) before n
     (how fault (t.leaves honest)))
     (λ honest start n all. failed_given (f.sources old) before.nest.names names start (f.openings old) (f.openings new) before n

@@ -34,8 +34,7 @@ names_behind n old new e =
 
 -- bytes that the innermost opening gives change no name
 names_given : (s : Sources) (old new : Openings) (bytes : List ℕ) → Gave s old new bytes → names_of new.all ≡ names_of old.all
-names_given s old new bytes gave =
-    names_same old.all new.all (innermost_place old) gave.count gave.others
+names_given s old new bytes gave = names_same old.all new.all (innermost_place old) gave.count gave.others
     (ap (λ (i : ℕ). (get_or new.all i (opened [])).name) (ap (λ (ps : List ℕ). get_or ps (length ps - 1) 0) (sym gave.places)) ∙ gave.name)
 
 pub opened_as_before : (s : Sources) (start old new : Openings) (bytes : List ℕ) → Gave s old new bytes →
@@ -45,8 +44,7 @@ opened_as_before s start old new bytes gave = names_behind (length start.all) ol
 -- a lexer that has read on
 cursor_moved : {q r : Reader} {is : Bool} {rest was : List ℕ} {lines : Lines} → rest ≡ was → r.lines ≡ lines → Stays q r is
     → cursor_of r rest ≡ record { rest = was; lines = lines; file = q.file; set = q.set; limit = q.limit }
-cursor_moved {q = q} {r = r} {was = was} {lines = lines} on passed same =
-    ap (cursor_of r) on
+cursor_moved {q = q} {r = r} {was = was} {lines = lines} on passed same = ap (cursor_of r) on
     ∙ ap (λ x. record { rest = was; lines = x; file = r.file; set = r.set; limit = r.limit }) passed
     ∙ ap (λ x. record { rest = was; lines = lines; file = x; set = r.set; limit = r.limit }) same.file
     ∙ ap (λ x. record { rest = was; lines = lines; file = q.file; set = x; limit = r.limit }) same.set
@@ -84,8 +82,7 @@ module _ {S : Type 0} {f : Files S} {failed : Bool} {a b : S} {nest : Nest} {q r
 
   -- a token was read
   pub reads_on : (token : Token) → read_out token r (to_come s new r.window) ≡ next_token q.set q.limit q.lines (to_come s old q.window)
-      → token.place.file ≡ q.file
-      → Reads token r.kept.bytes (nesting s start old (record { nest = nest; lexer = q; outer = outer }))
+      → token.place.file ≡ q.file → Reads token r.kept.bytes (nesting s start old (record { nest = nest; lexer = q; outer = outer }))
       (nesting s start new (record { nest = nest; lexer = r; outer = outer }))
   reads_on token e file =
       let c = cursor_of q (to_come s old q.window) in
@@ -128,19 +125,16 @@ left_nested start old new before after f n closes outer back =
     subst (λ (ps : List ℕ). AreNested at.place ps (lexers after)) rest
     (subst (λ (rs : List Reader). AreNested at.place at.rest rs) readers at.inner) in
     let count : length new.all ≡ length old.all = ap length closes.same in
-    let size : length before.outer ≡ suc (length after.outer) =
-    ap length outer ∙ omega (arith, length-append after.outer (f ∷ [])) in
+    let size : length before.outer ≡ suc (length after.outer) = ap length outer ∙ omega (arith, length-append after.outer (f ∷ [])) in
     record {
       more = omega (arith, n.more, count);
-      nested = nested_more at.place (length new.all) (reverse new.open_places) (lexers after)
-          (omega (arith, at.less, count)) inner;
+      nested = nested_more at.place (length new.all) (reverse new.open_places) (lexers after) (omega (arith, at.less, count)) inner;
       others = sym (ap (λ (ps : List ℕ). drop (suc (suc (length after.outer))) ps) places)
           ∙ ap (λ (k : ℕ). drop (suc k) (reverse old.open_places)) (sym size) ∙ n.others;
     }
 
 pub left_nesting : (s : Sources) (start old new : Openings) (before after : Open) (f : OpenFile) → IsNested start old before →
-    Closes old new
-    → before.outer ≡ after.outer ++ f ∷ [] → after.lexer ≡ f.lexer → after.nest ≡ left before.nest
+    Closes old new → before.outer ≡ after.outer ++ f ∷ [] → after.lexer ≡ f.lexer → after.nest ≡ left before.nest
     → nesting s start new after ≡ closed (nesting s start old before)
 left_nesting s start old new before after f n closes outer back nest =
     let at = innermost_of (length new.all) (reverse new.open_places) after.lexer (lexers_of (reverse after.outer))
@@ -150,8 +144,7 @@ left_nesting s start old new before after f n closes outer back nest =
     let files : reverse before.outer ≡ f ∷ reverse after.outer = ap reverse outer ∙ reverse_last after.outer f in
     let place : innermost_place new ≡ at.place = last_of new.open_places at.place at.rest at.is in
     let waits : waiting_at s old.all (drop 1 (reverse old.open_places)) (reverse before.outer)
-    ≡ waiting_as f (rest_of s (get_or old.all at.place (opened [])) f.lexer.window) ∷ waiting_at s old.all at.rest
-    (reverse after.outer) =
+    ≡ waiting_as f (rest_of s (get_or old.all at.place (opened [])) f.lexer.window) ∷ waiting_at s old.all at.rest (reverse after.outer) =
     ap (λ (ps : List ℕ). waiting_at s old.all (drop 1 ps) (reverse before.outer)) places
     ∙ ap (λ (fs : List OpenFile). waiting_at s old.all (reverse new.open_places) fs) files
     ∙ ap (λ (ps : List ℕ). waiting_at s old.all ps (f ∷ reverse after.outer)) at.is in
@@ -167,8 +160,7 @@ left_nesting s start old new before after f n closes outer back nest =
     (cursor_of after.lexer (rest_of s (get_or all at.place (opened [])) after.lexer.window))
     (waiting_at s all at.rest (reverse after.outer))) closes.same
     ∙ ap (λ (r : Reader). made before.nest.names (names_of (drop (length start.all) old.all))
-    (cursor_of r (rest_of s (get_or old.all at.place (opened [])) r.window))
-    (waiting_at s old.all at.rest (reverse after.outer))) back
+    (cursor_of r (rest_of s (get_or old.all at.place (opened [])) r.window)) (waiting_at s old.all at.rest (reverse after.outer))) back
     ∙ sym (ap (λ (waiting : List Waiting). closed (made before.nest.names (names_of (drop (length start.all) old.all))
     (cursor_of before.lexer (to_come s old before.lexer.window)) waiting)) waits)
 

@@ -18,8 +18,7 @@ last_is old name = last_of (old.open_places ++ length old.all ∷ []) (length ol
     (reverse_last old.open_places (length old.all))
 
 innermost_is : (old : Openings) (name : List ℕ) → innermost (with_opened name old) ≡ opened name
-innermost_is old name =
-    ap (λ n. get_or (old.all ++ opened name ∷ []) n (opened [])) (last_is old name)
+innermost_is old name = ap (λ n. get_or (old.all ++ opened name ∷ []) n (opened [])) (last_is old name)
     ∙ get_or-append_seam old.all (opened name) [] (opened [])
 
 -- an opened source has all its bytes still to give
@@ -49,19 +48,16 @@ pub main_nesting : (s : Sources) (old : Openings) (name : List ℕ) (set : CharS
       nest = entered name (record { set = set; limit = limit; names = []; open_files = [] });
       lexer = at_front set limit 0;
       outer = [];
-    })
-    ≡ main_opened set limit s name
-main_nesting s old name set limit =
-    rw (
-      drop_more (length old.all) old.all (opened name) (omega arith),
-      drop-length old.all,
-      front_is s old name set limit 0,
-      none_at (drop 1 (reverse (old.open_places ++ length old.all ∷ []))),
-    ) refl
-  where
-    none_at : (places : List ℕ) → waiting_at s (old.all ++ opened name ∷ []) places [] ≡ []
-    none_at [] = refl
-    none_at (p ∷ places) = refl
+    }) ≡ main_opened set limit s name
+main_nesting s old name set limit = rw (
+  drop_more (length old.all) old.all (opened name) (omega arith),
+  drop-length old.all,
+  front_is s old name set limit 0,
+  none_at (drop 1 (reverse (old.open_places ++ length old.all ∷ []))),
+) refl where
+  none_at : (places : List ℕ) → waiting_at s (old.all ++ opened name ∷ []) places [] ≡ []
+  none_at [] = refl
+  none_at (p ∷ places) = refl
 
 pub main_nested : (old : Openings) (name : List ℕ) (nest : Nest) (lexer : Reader) →
     IsNested old (with_opened name old) (record { nest = nest; lexer = lexer; outer = [] })
@@ -85,17 +81,14 @@ entered_nested start old before name nest lexer f waits n =
     reverse_last old.open_places (length old.all) in
     let readers : lexers_of (reverse (before.outer ++ f ∷ [])) ≡ lexers before =
     ap lexers_of (reverse_last before.outer f) ∙ ap (λ (r : Reader). r ∷ lexers_of (reverse before.outer)) waits in
-    let size : length (before.outer ++ f ∷ []) ≡ suc (length before.outer) =
-    omega (arith, length-append before.outer (f ∷ [])) in
+    let size : length (before.outer ++ f ∷ []) ≡ suc (length before.outer) = omega (arith, length-append before.outer (f ∷ [])) in
     record {
       more = omega (arith, n.more, length-append old.all (opened name ∷ []));
       nested = subst (λ ps. AreNested (length (old.all ++ opened name ∷ [])) ps (lexer ∷ lexers_of (reverse (before.outer ++ f ∷ []))))
           (sym places)
           (subst (λ rs. AreNested (length (old.all ++ opened name ∷ [])) (length old.all ∷ reverse old.open_places) (lexer ∷ rs))
-          (sym readers)
-          (omega (arith, length-append old.all (opened name ∷ [])), n.nested));
-      others =
-          ap (λ k. drop (suc k) (reverse (old.open_places ++ length old.all ∷ []))) size
+          (sym readers) (omega (arith, length-append old.all (opened name ∷ [])), n.nested));
+      others = ap (λ k. drop (suc k) (reverse (old.open_places ++ length old.all ∷ []))) size
           ∙ ap (λ ps. drop (suc (suc (length before.outer))) ps) places ∙ n.others;
     }
 
@@ -103,14 +96,11 @@ pub entered_nesting : (s : Sources) (start old : Openings) (before : Open) (name
     (conditionals : Vec Conditional Global) (is_system : Bool) → IsNested start old before
     → nesting s start (with_opened name old) (record {
       nest = entered name before.nest;
-      lexer = at_front set limit
-          (number_of name before.nest.names);
+      lexer = at_front set limit (number_of name before.nest.names);
       outer = before.outer ++ waits before.lexer conditionals is_system ∷ [];
-    })
-    ≡ one_more set limit s (reverse conditionals.items) is_system name (nesting s start old before)
+    }) ≡ one_more set limit s (reverse conditionals.items) is_system name (nesting s start old before)
 entered_nesting s start old before name set limit conditionals is_system n =
-    let f : OpenFile = waits before.lexer conditionals is_system in
-    let number : ℕ = number_of name before.nest.names in
+    let f : OpenFile = waits before.lexer conditionals is_system in let number : ℕ = number_of name before.nest.names in
     let new = with_opened name old in
     let at = innermost_of (length old.all) (reverse old.open_places) before.lexer (lexers_of (reverse before.outer)) n.nested in
     let places : reverse new.open_places ≡ length old.all ∷ reverse old.open_places = reverse_last old.open_places (length old.all) in
@@ -122,8 +112,7 @@ entered_nesting s start old before name set limit conditionals is_system n =
     ap (λ (ps : List ℕ). waiting_at s new.all (drop 1 ps) (reverse (before.outer ++ f ∷ []))) places
     ∙ ap (λ fs. waiting_at s new.all (reverse old.open_places) fs) files
     ∙ waiting_same s old.all new.all (length old.all) (reverse old.open_places) (f ∷ reverse before.outer) n.nested
-    (λ i less. slice_front old.all (opened name) i less)
-    ∙ ap (λ (ps : List ℕ). waiting_at s old.all ps (f ∷ reverse before.outer)) at.is
+    (λ i less. slice_front old.all (opened name) i less) ∙ ap (λ (ps : List ℕ). waiting_at s old.all ps (f ∷ reverse before.outer)) at.is
     ∙ sym (ap (λ (i : ℕ). waiting_as f (rest_of s (get_or old.all i (opened [])) before.lexer.window) ∷ waiting_at s old.all
     at.rest (reverse before.outer)) place)
     ∙ sym (ap (λ (ps : List ℕ). waiting_as f (to_come s old before.lexer.window) ∷ waiting_at s old.all (drop 1 ps)
@@ -132,10 +121,8 @@ entered_nesting s start old before name set limit conditionals is_system n =
     record { names = (entered name before.nest).names; openings = openings; cursor = cursor; waiting = waiting } in
     ap (λ x. made x (cursor_of (at_front set limit number) (to_come s new (at_front set limit number).window))
     (waiting_at s new.all (drop 1 (reverse new.open_places)) (reverse (before.outer ++ f ∷ []))))
-    (drop_more (length start.all) old.all (opened name) n.more)
-    ∙ ap (λ x. made (names_of (drop (length start.all) old.all) ++ name ∷ []) x
-    (waiting_at s new.all (drop 1 (reverse new.open_places)) (reverse (before.outer ++ f ∷ []))))
-    (front_is s old name set limit number)
+    (drop_more (length start.all) old.all (opened name) n.more) ∙ ap (λ x. made (names_of (drop (length start.all) old.all) ++ name ∷ []) x
+    (waiting_at s new.all (drop 1 (reverse new.open_places)) (reverse (before.outer ++ f ∷ [])))) (front_is s old name set limit number)
     ∙ ap (λ x. made (names_of (drop (length start.all) old.all) ++ name ∷ []) (front set limit number (unwrap_or (s name) [])) x) all_wait
 
 -- Lemmas about a file that was closed at once
@@ -144,8 +131,7 @@ closed_nested : (start old : Openings) (before : Open) (name : List ℕ) → IsN
     IsNested start (with_closed name old) before
 closed_nested start old before name n = record {
   more = omega (arith, n.more, length-append old.all (opened name ∷ []));
-  nested =
-      nested_more (length old.all) (length (old.all ++ opened name ∷ [])) (reverse old.open_places) (lexers before)
+  nested = nested_more (length old.all) (length (old.all ++ opened name ∷ [])) (reverse old.open_places) (lexers before)
       (omega (arith, length-append old.all (opened name ∷ []))) n.nested;
   others = n.others;
 }
@@ -179,6 +165,5 @@ main_of s old new name n stack nest lexer outer set limit is_fresh named opens e
     rw (empty, fronts, enters, opens, is_fresh, named) (main_nesting s old name set limit)
 
 pub main_nested_of : (old new : Openings) (n : List ℕ) (nest : Nest) (lexer : Reader) (outer : List OpenFile) → new ≡ with_opened n old →
-    outer ≡ []
-    → IsNested old new (record { nest = nest; lexer = lexer; outer = outer })
+    outer ≡ [] → IsNested old new (record { nest = nest; lexer = lexer; outer = outer })
 main_nested_of old new n nest lexer outer opens empty = rw (opens, empty) (main_nested old n nest lexer)

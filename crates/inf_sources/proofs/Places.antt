@@ -68,8 +68,7 @@ waiting_same s old new bound (p ∷ places) (f ∷ files) h same =
     (waiting_same s old new p places files h.1 (λ i less. same i (omega (arith, less, h.0))))
 
 pub waiting_length : (s : Sources) (all : List Opening) (bound : ℕ) (places : List ℕ) (files : List OpenFile) →
-    AreNested bound places (lexers_of files)
-    → length (waiting_at s all places files) ≡ length files
+    AreNested bound places (lexers_of files) → length (waiting_at s all places files) ≡ length files
 waiting_length s all bound [] [] h = refl
 waiting_length s all bound (p ∷ places) [] h = refl
 waiting_length s all bound [] (f ∷ files) h = absurd h
@@ -105,8 +104,7 @@ all_same : (old new : List Opening) → ((i : ℕ) → slice_get new i ≡ slice
 all_same [] [] same = refl
 all_same [] (n ∷ new) same = let never : Some n ≡ None = same 0 in cc
 all_same (o ∷ old) [] same = let never : None ≡ Some o = same 0 in cc
-all_same (o ∷ old) (n ∷ new) same =
-    ap (λ (p : Opening). p.name ∷ names_of new) (some_same n o (same 0))
+all_same (o ∷ old) (n ∷ new) same = ap (λ (p : Opening). p.name ∷ names_of new) (some_same n o (same 0))
     ∙ ap (λ names. o.name ∷ names) (all_same old new (λ i. same (suc i)))
 
 -- where one opening changes, and not its name, all names stay
@@ -115,8 +113,7 @@ pub names_same : (old new : List Opening) (at : ℕ) → length new ≡ length o
 names_same [] [] at count others here = refl
 names_same [] (n ∷ new) at count others here = absurd (omega (arith, count))
 names_same (o ∷ old) [] at count others here = absurd (omega (arith, count))
-names_same (o ∷ old) (n ∷ new) zero count others here =
-    ap (λ name. name ∷ names_of new) here
+names_same (o ∷ old) (n ∷ new) zero count others here = ap (λ name. name ∷ names_of new) here
     ∙ ap (λ names. o.name ∷ names) (all_same old new (λ i. others (suc i) (λ e. absurd (omega (arith, e)))))
 names_same (o ∷ old) (n ∷ new) (suc at) count others here =
     ap (λ (p : Opening). p.name ∷ names_of new) (some_same n o (others 0 (λ e. absurd (omega (arith, e)))))

@@ -23,11 +23,9 @@ quoted_only : (set : CharSet) (limit : ℕ) (e : Ending) (k : Kept) → is_quote
 quoted_only set limit Ending.End k is = cc
 quoted_only set limit Ending.Unfit k is = cc
 quoted_only set limit (Ending.Mark m) k is = cc
-quoted_only set limit (Ending.Run false) k is =
-    unquoted limit (Ending.Run false) (kind_of set (Ending.Run false) k)
+quoted_only set limit (Ending.Run false) k is = unquoted limit (Ending.Run false) (kind_of set (Ending.Run false) k)
     (cond_both k.is_cut (TokenKind.Bad BadToken.LongName) TokenKind.Name (λ x. is_quoted_kind x ≡ false) (λ _. refl) (λ _. refl)) is
-quoted_only set limit (Ending.Run true) k is =
-    unquoted limit (Ending.Run true) (kind_of set (Ending.Run true) k)
+quoted_only set limit (Ending.Run true) k is = unquoted limit (Ending.Run true) (kind_of set (Ending.Run true) k)
     (cond_both k.is_cut (TokenKind.Bad BadToken.Number) (number_kind (number_of k.bytes)) (λ x. is_quoted_kind x ≡ false) (λ _. refl)
     (λ _. number_unquoted (number_of k.bytes))) is
 quoted_only set limit Ending.Unclosed k is = refl
@@ -38,8 +36,7 @@ next_few : (set : CharSet) (limit : ℕ) (lines : Lines) (bytes : List ℕ) →
     KeepsFew limit (next_token set limit lines bytes).kind (next_token set limit lines bytes).kept
 next_few set limit lines [] is = cc
 next_few set limit lines (b ∷ bytes) is =
-    let s = next_spelled set limit lines (b ∷ bytes) (omega arith) in
-    let p : Piece = s.piece in
+    let s = next_spelled set limit lines (b ∷ bytes) (omega arith) in let p : Piece = s.piece in
     let most : most_of limit s.is.ending ≡ limit =
     quoted_only set limit s.is.ending p.read.kept (ap is_quoted_kind (sym s.is.is_told ∙ ap (λ (r : Read). r.kind) s.is.is_read) ∙ is) in
     let kept : length (next_token set limit lines (b ∷ bytes)).kept.bytes ≡ length p.read.kept.bytes =

@@ -31,8 +31,7 @@ pub record Kept {S : Type 0} (f : Files S) (old new : S) : Type 0 where
 
 -- A call keeps the given bytes of each opening a front of its source, and each open file tracked.
 abbrev pub StaysGiven : {S : Type 0} → Files S → S → S → Open → Open → Type 0
-StaysGiven f old new before after =
-    Honestly f old before (λ start. AllGiven (f.sources old) (length start.all) (f.openings old) before
+StaysGiven f old new before after = Honestly f old before (λ start. AllGiven (f.sources old) (length start.all) (f.openings old) before
     → AllGiven (f.sources old) (length start.all) (f.openings new) after)
 
 -- A call opens and closes just the files that are open now in place of those that were. The reader goes on to count the bytes that each of
@@ -51,8 +50,7 @@ pub record Went {S : Type 0} (f : Files S) (old new : S) (before after : Open) :
 
 -- A call gives no opening more bytes than a source may have.
 abbrev pub StaysFit : {S : Type 0} → Files S → S → S → Open → Type 0
-StaysFit f old new before =
-    Honestly f old before (λ start. AllGiven (f.sources old) (length start.all) (f.openings old) before
+StaysFit f old new before = Honestly f old before (λ start. AllGiven (f.sources old) (length start.all) (f.openings old) before
     → Each Fits (length start.all) (f.openings old).all → Each Fits (length start.all) (f.openings new).all)
 
 -- A call read on in the innermost file, and nothing else changed; where `failed` is true, the file could at last not be read further.

@@ -29,8 +29,7 @@ nesting_with set n = record n { cursor = cursor_with set n.cursor; waiting = map
 
 -- the innermost file and those that are entered later, read by `set`, with quoted tokens of at most `limit` bytes
 abbrev pub chosen : CharSet → ℕ → Open → Open
-chosen set limit o =
-    record o { nest = record o.nest { set = set; limit = limit }; lexer = record o.lexer { set = set; limit = limit } }
+chosen set limit o = record o { nest = record o.nest { set = set; limit = limit }; lexer = record o.lexer { set = set; limit = limit } }
 
 abbrev pub nesting_chosen : CharSet → ℕ → Nesting → Nesting
 nesting_chosen set limit n = record n { cursor = record n.cursor { set = set; limit = limit } }

@@ -80,8 +80,7 @@ by_first (Some name) = Opens name
 
 -- the outcome of an inclusion, by its text: one that can be no file's name is that of no file
 abbrev pub inclusion : Sources → List (List ℕ) → List ℕ → Nesting → Inclusion
-inclusion sources directories text n =
-    if not (can_name text) then OpensNone Included.NotThere else
+inclusion sources directories text n = if not (can_name text) then OpensNone Included.NotThere else
     if nat_le most_open (length n.waiting + 1) then OpensNone Included.TooDeep
     else by_first (first_there sources (candidates directories (innermost_name n) text))
 

@@ -53,8 +53,7 @@ rest_of sources o view = view.left ++ (if view.is_over then [] else unread_of so
 
 -- a file that waits, with the bytes that are its rest
 abbrev pub waiting_as : OpenFile → List ℕ → Waiting
-waiting_as f rest =
-    record { cursor = cursor_of f.lexer rest; conditionals = reverse f.conditionals.items; is_system = f.is_system }
+waiting_as f rest = record { cursor = cursor_of f.lexer rest; conditionals = reverse f.conditionals.items; is_system = f.is_system }
 
 -- some files that wait, by the places of their openings
 abbrev pub waiting_at : Sources → List Opening → List ℕ → List OpenFile → List Waiting

@@ -1,12 +1,7 @@
 -- Tokens that begin with a quote: where they come, and the number of bytes that are kept of them.
-use Rattle.std.specs.Prelude.{◌≡◌, ◌≤◌, ℕ, List, length, Bool, true, false}
-use Rattle.inf_lexer.specs.Readers.{Reader}
-use Rattle.inf_scanner.specs.{Kept.Kept, Scanning.begun, Scanning.find, Scanning.is_quoted, declared.scanner.State.State}
+use Rattle.std.specs.Prelude.{◌≡◌, ◌≤◌, ℕ, length, Bool, true, false}
+use Rattle.inf_scanner.specs.{Kept.Kept}
 use Rattle.inf_scanner.specs.{declared.tokens.BadToken.BadToken, declared.tokens.TokenKind.TokenKind}
-
--- whether the next token of a lexer is a quoted one, where these bytes are still to come
-abbrev pub comes_quoted : Reader → List ℕ → Bool
-comes_quoted r rest = is_quoted (find r.set r.limit State.Gap (begun r.lines) rest).ending
 
 -- Tells whether a token is a text or a quote, or is bad for its end, its size or its characters.
 abbrev pub is_quoted_kind : TokenKind → Bool

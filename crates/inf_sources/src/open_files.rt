@@ -187,9 +187,8 @@ impl OpenFiles {
         Ok(token)
     }
 
-    /// Reads the next word of the head of the innermost file into `word`, as `Lexer::next_head_word` reads it, keeping
-    /// at most 256 bytes, and returns whether there was one. `place` says where the head goes on: `HeadPlace::Line`
-    /// before the first call.
+    /// Reads the next word of the head of the innermost file into `word`, as `Lexer::next_head_word` reads it, keeping at most 256 bytes,
+    /// and returns whether there was one. `place` says where the head goes on: `HeadPlace::Line` before the first call.
     ///
     /// Returns the error `Read` where the file could not be read, or has more than 16,777,216 bytes.
     pub fn next_head_word<F: Files>(
@@ -201,8 +200,7 @@ impl OpenFiles {
         requires is_open { length self.old.outer < F.depth files.old }
         requires goes { self.old.lexer.has_failed ≡ false }
         ensures word { Honestly F.Files files.old self.old (λ start. IfOk result (λ is_word.
-            ReadsHead is_word place.new word.new.items place.old
-            (nesting (F.sources files.old) start (F.openings files.old) self.old)
+            ReadsHead is_word place.new word.new.items place.old (nesting (F.sources files.old) start (F.openings files.old) self.old)
             (nesting (F.sources files.old) start (F.openings files.new) self.new))) }
         ensures reads { ReadsFile F.Files (tells_read result) files.old files.new self.old self.new }
         ensures took { (place.new ≡ place_after result place.old)
@@ -217,9 +215,8 @@ impl OpenFiles {
         Ok(is_word)
     }
 
-    /// Enters the file that the text of an inclusion names, in these directories or beside the innermost file; that
-    /// file is then the innermost. A name that no file has, one that is empty or has a byte over 127, and a seventeenth
-    /// file open nothing.
+    /// Enters the file that the text of an inclusion names, in these directories or beside the innermost file; that file is then the
+    /// innermost. A name that no file has, one that is empty or has a byte over 127, and a seventeenth file open nothing.
     ///
     /// The conditionals and the mark are those of the innermost file. They wait with it where a file is entered, which
     /// has no conditional yet and no mark.
@@ -308,8 +305,7 @@ impl OpenFiles {
         requires is_open { length self.outer < F.depth files.old }
         ensures closed { Honestly F.Files files.old self (λ start. F.openings files.new ≡ closed_to start (F.openings files.old)) }
         ensures kept { Kept F.Files files.old files.new }
-        ensures untouched { (F.faults files.new ≡ F.faults files.old)
-            × ((F.counts files.new).too_long ≡ (F.counts files.old).too_long) }
+        ensures untouched { (F.faults files.new ≡ F.faults files.old) × ((F.counts files.new).too_long ≡ (F.counts files.old).too_long) }
         ensures all { IsTrue (F.is_honest files.old) → (F.openings files.new).all ≡ (F.openings files.old).all }
         ensures depth { F.depth files.new + length self.outer + 1 ≡ F.depth files.old }
     {

@@ -93,14 +93,11 @@ few_roots op nodes roots v e fits =
     let row = row_parts (row_of op) (length (trees_from nodes roots)) v e fits in omega (arith, row.eight, length-trees nodes roots)
 
 pub takes_operands : (op : Opcode) (nodes : List Tree) (roots : List Root) (v : Bool) (e : Ends) (count : ℕ) (store : Option ℕ)
-    (branch : Option Branch)
-    → count ≡ length roots → is_some store ≡ is_some e.store → is_some branch ≡ is_some e.branch
+    (branch : Option Branch) → count ≡ length roots → is_some store ≡ is_some e.store → is_some branch ≡ is_some e.branch
     → (row_of op).jumps ≡ false → (row_of op).has_text ≡ false → (row_of op).names_variable ≡ false → fits_row (row_of op)
-    (length (trees_from nodes roots)) v e ≡ true
-    → Takes op count (is_some store) (is_some branch)
+    (length (trees_from nodes roots)) v e ≡ true → Takes op count (is_some store) (is_some branch)
 takes_operands op nodes roots v e count store branch counts stores branches jumps text names fits =
-    let row = row_parts (row_of op) (length (trees_from nodes roots)) v e fits in
-    let len = length-trees nodes roots in
+    let row = row_parts (row_of op) (length (trees_from nodes roots)) v e fits in let len = length-trees nodes roots in
     record {
       enough = omega (arith, row.enough, len, counts);
       few = omega (arith, row.few, len, counts);
@@ -112,8 +109,7 @@ takes_operands op nodes roots v e count store branch counts stores branches jump
     }
 
 pub takes_named : (limits : Limits) (op : Opcode) (nodes : List Tree) (roots : List Root) (e : Ends) (store : Option ℕ)
-    (branch : Option Branch)
-    → is_some store ≡ is_some e.store → is_some branch ≡ is_some e.branch
+    (branch : Option Branch) → is_some store ≡ is_some e.store → is_some branch ≡ is_some e.branch
     → (row_of op).jumps ≡ false → (row_of op).has_text ≡ false → (row_of op).names_variable ≡ true
     → fits_row (row_of op) (length (trees_from nodes roots)) (is_some (first_variable limits (trees_from nodes roots))) e ≡ true
     → TakesVariable op (length roots - 1) (is_some store) (is_some branch)

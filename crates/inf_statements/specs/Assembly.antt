@@ -23,13 +23,11 @@ use Rattle.inf_statements.specs.{Statements.printed, declared.assembly.Ends.Ends
 
 -- the label of a name that is used, and all labels then
 abbrev pub labelled : List ℕ → List NamedLabel → Laying (Label × List NamedLabel)
-labelled name labels o =
-    ((label_of name (next_label o) labels, wanted name (next_label o) labels), record o { next = behind o.next })
+labelled name labels o = ((label_of name (next_label o) labels, wanted name (next_label o) labels), record o { next = behind o.next })
 
 -- the label of a name whose place is given, and all labels then
 abbrev pub placed : List ℕ → List NamedLabel → Laying (Label × List NamedLabel)
-placed name labels o =
-    ((label_of name (next_label o) labels, given name (next_label o) labels), record o { next = behind o.next })
+placed name labels o = ((label_of name (next_label o) labels, given name (next_label o) labels), record o { next = behind o.next })
 
 -- Definitions of the ends of a line: all in it that is no operand
 

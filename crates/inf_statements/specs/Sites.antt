@@ -9,6 +9,5 @@ site s = record {
   begun = s.begun;
   items = s.items.now;
   locals = listed s.locals.now;
-  constructs =
-      s.constructs.now;
+  constructs = s.constructs.now;
 }

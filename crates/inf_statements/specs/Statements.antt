@@ -118,8 +118,7 @@ spaced limits [] = nothing
 spaced limits (e ∷ trees) = call_routine limits Veneer.Spaces (part (meaning limits e) ∷ []) None
 
 -- A string variable becomes a low string: its word among the abbreviations is written, which begin with the string variables (Z-Machine
--- Standard 1.1,
--- section 3.3).
+-- Standard 1.1, section 3.3).
 abbrev pub abbreviations : Target
 abbreviations = Target.Place AreaName.Abbreviations 0
 
@@ -192,10 +191,8 @@ attributes_changed limits items (e ∷ trees) = given_by limits (are_several ite
 
 -- Styles of text (Z-Machine Standard 1.1, section 15, `set_text_style`)
 abbrev pub style_of : List ℕ → Option ℕ
-style_of name =
-    if str_eq_ignore_ascii_case name (codes "roman") then Some 0 else
-    if str_eq_ignore_ascii_case name (codes "reverse") then Some 1 else
-    if str_eq_ignore_ascii_case name (codes "bold") then Some 2 else
+style_of name = if str_eq_ignore_ascii_case name (codes "roman") then Some 0 else
+    if str_eq_ignore_ascii_case name (codes "reverse") then Some 1 else if str_eq_ignore_ascii_case name (codes "bold") then Some 2 else
     if str_eq_ignore_ascii_case name (codes "underline") then Some 4 else
     if str_eq_ignore_ascii_case name (codes "fixed") then Some 8 else None
 

@@ -30,8 +30,7 @@ use inf_unit::unit::{next_place, order};
 use inf_unit::unit_tokens::UnitTokens;
 use std::alloc::{AllocError, Global};
 
-/// The ends of an assembly line: all in it that is no operand. Tokens are given by their places among those of the
-/// unit.
+/// The ends of an assembly line: all in it that is no operand. Tokens are given by their places among those of the unit.
 #[derive(Clone, Copy)]
 pub struct Ends {
     /// The name of the variable in which the line stores.
@@ -53,7 +52,6 @@ pub(crate) struct Line<'a> {
     pub ends: Ends,
 }
 
-/// Returns the label of `name`, which is used.
 pub(crate) fn labelled<B: Bounds>(
     name: &[u8],
     labels: &mut Labels,
@@ -66,7 +64,6 @@ pub(crate) fn labelled<B: Bounds>(
     labels.want(name, new)
 }
 
-/// Returns the label of `name`, whose place is given.
 pub(crate) fn placed<B: Bounds>(
     name: &[u8],
     labels: &mut Labels,
@@ -164,8 +161,6 @@ impl Ends {
     }
 }
 
-/// Returns whether the opcode of `row`, which is no jump, takes `operands` operands, the first of which is a variable
-/// if `has_variable`, and `ends`.
 fn fits_row(row: OpcodeRow, operands: usize, has_variable: bool, ends: Ends) -> bool
     ensures { result ≡ fits_row row operands has_variable ends }
 {
@@ -249,8 +244,7 @@ impl Line<'_> {
         roots: &[Root],
     ) -> Option<Finding>
         requires { opcode ≡ opcode_of (bytes_at self.now.tokens.now (next_place begun)) }
-        ensures { let line = self.now in
-            result ≡ line_finding B.most (listed line.locals.now) names.now line.tokens.now begun line.ends
+        ensures { let line = self.now in result ≡ line_finding B.most (listed line.locals.now) names.now line.tokens.now begun line.ends
             (trees_from nodes.now roots.now) }
     {
         let behind = next_place(begun);
@@ -381,8 +375,7 @@ fn lay_instructed<B: Bounds>(
         fits_row (row_of opcode) (length trees) (is_some (first_variable B.most trees)) line.ends ≡ true }
     ensures { OnOk result ((labels.new, out.new)
         ≡ line_instructed B.most (listed line.entry.locals.now) line.entry.tokens.now opcode line.entry.ends
-        (trees_from nodes.now roots.now)
-        labels.old out.old) }
+        (trees_from nodes.now roots.now) labels.old out.old) }
 {
     let branch = branch_of(line, labels, out)?;
     let store = line.store(&out.names);
@@ -390,7 +383,6 @@ fn lay_instructed<B: Bounds>(
     lay_parts(names_variable, opcode, nodes, roots, store, branch, out)
 }
 
-/// Returns whether an opcode of `row` prints a text, and takes nothing else.
 fn prints(row: OpcodeRow) -> bool
     ensures { result ≡ prints row }
 {
@@ -455,8 +447,7 @@ fn lay_fit<B: Bounds>(
     requires { fits B.most opcode (trees_from nodes.now roots.now) line.ends ≡ true }
     ensures { OnOk result ((labels.new, out.new)
         ≡ line_laid_by B.most (row_of opcode).jumps (row_of opcode).has_text line.entry.set (listed line.entry.locals.now)
-        line.entry.tokens.now
-        opcode line.entry.ends (trees_from nodes.now roots.now) labels.old out.old) }
+        line.entry.tokens.now opcode line.entry.ends (trees_from nodes.now roots.now) labels.old out.old) }
 {
     let row = opcode.row();
     if row.jumps {

@@ -109,8 +109,7 @@ impl Site<'_> {
 
     /// Returns the finding that the statement's style is unknown.
     fn style_finding(&self) -> Option<Finding>
-        ensures { let s = site self.now in
-            result ≡ unless_some (style_of (name_behind s)) (wrong_kind (order (next_place s.begun))) }
+        ensures { let s = site self.now in result ≡ unless_some (style_of (name_behind s)) (wrong_kind (order (next_place s.begun))) }
     {
         match style_of(self.name()) {
             Some(_) => None,

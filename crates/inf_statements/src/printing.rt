@@ -41,8 +41,7 @@ pub(crate) fn print_text<B: Bounds>(
     out.emit(&Instruction::with_text(opcode, packed.as_slice()))
 }
 
-/// Returns the opcode that prints a text with `others` behind it: the last text of a statement that returns has its
-/// own.
+/// Returns the opcode that prints a text with `others` behind it: the last text of a statement that returns has its own.
 fn text_opcode(returns: bool, others: &[Item]) -> Opcode
     ensures value { result ≡ text_opcode returns others.now }
     ensures prints { PrintsText result }
@@ -180,10 +179,8 @@ fn print_item<B: Bounds>(
     tasks: &mut Tasks,
     out: &mut Output<B>,
 ) -> Result<(), AllocError>
-    ensures { OnOk result (out.new
-        ≡ item_code B.most printing.entry.set printing.entry.tokens.now printing.entry.returns others.now item
-        (trees_from nodes.now roots.now)
-        out.old) }
+    ensures { OnOk result (out.new ≡ item_code B.most printing.entry.set printing.entry.tokens.now printing.entry.returns others.now item
+        (trees_from nodes.now roots.now) out.old) }
 {
     match item {
         Item::Text(at) => {

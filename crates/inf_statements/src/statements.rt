@@ -139,7 +139,6 @@ pub(crate) fn statement_in(tokens: &UnitTokens, begun: usize, items: &[Item]) ->
     }
 }
 
-/// Lays an instruction of `opcode` alone.
 pub(crate) fn plain<B: Bounds>(opcode: Opcode, out: &mut Output<B>) -> Result<(), AllocError>
     requires { Takes opcode 0 false false }
     ensures { OnOk result (out.new ≡ plain B.most opcode out.old) }
@@ -246,8 +245,7 @@ fn return_simple<B: Bounds>(operand: Simple, out: &mut Output<B>) -> Result<(), 
     }
 }
 
-/// Lays the return of the first of some trees; of 1 where there is none. A value that needs code is returned from the
-/// stack.
+/// Lays the return of the first of some trees; of 1 where there is none. A value that needs code is returned from the stack.
 pub(crate) fn lay_return<B: Bounds>(
     forest: &Forest,
     tasks: &mut Tasks,
@@ -331,8 +329,7 @@ fn set_string<B: Bounds>(
     }
 }
 
-/// Lays the code of `string`: the string variable whose number is the first of some trees becomes a new low string of
-/// these bytes.
+/// Lays the code of `string`: the string variable whose number is the first of some trees becomes a new low string of these bytes.
 pub(crate) fn lay_string<B: Bounds>(
     packed: &[u8],
     forest: &Forest,
@@ -456,8 +453,7 @@ fn are_several(items: &[Item]) -> bool
     matches!(items, [_, _, ..])
 }
 
-/// Lays the code of `give`: the first of some trees is an object. With several attributes an object that needs code is
-/// worked out first.
+/// Lays the code of `give`: the first of some trees is an object. With several attributes an object that needs code is worked out first.
 pub(crate) fn lay_give<B: Bounds>(
     items: &[Item],
     forest: &Forest,
@@ -478,8 +474,6 @@ pub(crate) fn lay_give<B: Bounds>(
     lay_attributes(object, items, nodes, attributes, tasks, out)
 }
 
-/// Returns the number of a style of text, by its name in any case (Z-Machine Standard 1.1, section 15,
-/// `set_text_style`).
 pub(crate) fn style_of(name: &[u8]) -> Option<u16>
     ensures { result ≡ style_of name.now }
 {

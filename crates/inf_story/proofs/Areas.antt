@@ -29,18 +29,15 @@ written fixups =
     fixups AreaName.Abbreviations ∷ fixups AreaName.PropertyDefaults ∷ fixups AreaName.Objects ∷ fixups AreaName.PropertyTables ∷ fixups
     AreaName.ClassNumbers
     ∷ fixups AreaName.IndividualTables ∷ fixups AreaName.Globals ∷ fixups AreaName.Arrays ∷ fixups AreaName.Grammar ∷ fixups
-    AreaName.Actions
-    ∷ fixups AreaName.ParsingRoutines ∷ fixups AreaName.Code ∷ []
+    AreaName.Actions ∷ fixups AreaName.ParsingRoutines ∷ fixups AreaName.Code ∷ []
 
 -- all fixups, with those of the areas that are known bytes
 abbrev whole : (AreaName → List Fixup) → List Fixup → List Fixup → List Fixup → List Fixup
 whole fixups low words strings =
     low ++ all (fixups AreaName.Abbreviations ∷ fixups AreaName.PropertyDefaults ∷ fixups AreaName.Objects ∷ fixups
-    AreaName.PropertyTables ∷ fixups
-    AreaName.ClassNumbers
+    AreaName.PropertyTables ∷ fixups AreaName.ClassNumbers
     ∷ fixups AreaName.IndividualTables ∷ fixups AreaName.Globals ∷ fixups AreaName.Arrays ∷ fixups AreaName.Grammar ∷ fixups
-    AreaName.Actions
-    ∷ fixups AreaName.ParsingRoutines ∷ words ∷ fixups AreaName.Code ∷ strings ∷ [])
+    AreaName.Actions ∷ fixups AreaName.ParsingRoutines ∷ words ∷ fixups AreaName.Code ∷ strings ∷ [])
 
 all_written : (fixups : AreaName → List Fixup) → put [] (written fixups) ≡ whole fixups [] [] []
 all_written fixups = put_all [] (written fixups)
@@ -54,10 +51,8 @@ fixups_in main finished strings tables name = fixups_of name 0 (area_of name (ar
 pub all_fixups : (main : ℕ) (finished : List Cell) (strings : List ℕ) (tables : AllTables)
     → put [] (written (fixups_in main finished strings tables)) ≡ cells_fixups (areas main finished strings tables)
 all_fixups main finished strings tables =
-    let fixups = fixups_in main finished strings tables in
-    let words = dictionary_bytes tables.dictionary.list in
-    all_written fixups
-    ∙ ap (λ low. whole fixups low [] []) (none_low tables.low_strings.bytes)
+    let fixups = fixups_in main finished strings tables in let words = dictionary_bytes tables.dictionary.list in
+    all_written fixups ∙ ap (λ low. whole fixups low [] []) (none_low tables.low_strings.bytes)
     ∙ ap (λ none. whole fixups (fixups AreaName.LowStrings) none []) (sym (fixups_of-known AreaName.Dictionary 0 words))
     ∙ ap (λ none. whole fixups (fixups AreaName.LowStrings) (fixups AreaName.Dictionary) none)
     (sym (fixups_of-known AreaName.Strings 0 strings))

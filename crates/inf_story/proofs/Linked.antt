@@ -11,8 +11,7 @@ use Rattle.inf_tables.specs.Tables.{AllTables}
 pub is_story : (fields : HeaderFields) (main : ℕ) (names : List Value) (finished : List Cell) (strings : List ℕ) (tables : AllTables)
     (contents : Areas (List ℕ)) (fixups : List Fixup) (targets : Lookup)
     → contents ≡ cells_contents (areas main finished strings tables) → fixups ≡ cells_fixups (areas main finished strings tables) → targets
-    ≡ looked_up names tables
-    → linked contents fixups targets fields ≡ story fields main names finished strings tables
+    ≡ looked_up names tables → linked contents fixups targets fields ≡ story fields main names finished strings tables
 unfolding story
 is_story fields main names finished strings tables contents fixups targets are_contents are_fixups are_targets =
     let cells = areas main finished strings tables in
@@ -22,16 +21,14 @@ is_story fields main names finished strings tables contents fixups targets are_c
     ∙ cells_in_order cells (looked_up names tables) fields
 
 pub is_too_long : (fields : HeaderFields) (main : ℕ) (finished : List Cell) (strings : List ℕ) (tables : AllTables)
-    (contents : Areas (List ℕ))
-    → contents ≡ cells_contents (areas main finished strings tables)
+    (contents : Areas (List ℕ)) → contents ≡ cells_contents (areas main finished strings tables)
     → too_long_by (lengths contents) fields.scale ≡ too_long fields main finished strings tables
 unfolding too_long
 is_too_long fields main finished strings tables contents are_contents = ap (λ bytes. too_long_by (lengths bytes) fields.scale) are_contents
     ∙ ap (λ sizes. too_long_by sizes fields.scale) (sizes-cells (areas main finished strings tables))
 
 pub is_sized : (fields : HeaderFields) (main : ℕ) (finished : List Cell) (strings : List ℕ) (tables : AllTables)
-    (contents : Areas (List ℕ)) (bytes : List ℕ)
-    → contents ≡ cells_contents (areas main finished strings tables)
+    (contents : Areas (List ℕ)) (bytes : List ℕ) → contents ≡ cells_contents (areas main finished strings tables)
     → sizes contents fields bytes ≡ story_sizes fields main finished strings tables bytes
 unfolding story_sizes
 is_sized fields main finished strings tables contents bytes are_contents = ap (λ areas. sizes areas fields bytes) are_contents

@@ -8,8 +8,7 @@ use Rattle.inf_story.specs.{Stories.story, Tables.areas, Tables.looked_up}
 use Rattle.inf_tables.specs.Tables.{AllTables}
 
 pub story_tells : (fields : HeaderFields) (main : ℕ) (names : List Value) (finished : List Cell) (strings : List ℕ) (tables : AllTables) →
-    length fields.serial ≡ 6
-    → TellsItself fields.scale (map_of (cells_sizes (areas main finished strings tables)) fields.scale).end
+    length fields.serial ≡ 6 → TellsItself fields.scale (map_of (cells_sizes (areas main finished strings tables)) fields.scale).end
     (story fields main names finished strings tables)
 unfolding story
 story_tells fields main names finished strings tables six =
@@ -17,5 +16,4 @@ story_tells fields main names finished strings tables six =
     let number = number_of (looked_up names tables) fields.scale (map_of (cells_sizes cells) fields.scale).bases in
     let contents = by_name (λ name. numbered number (area_of name cells)) in
     subst (λ sizes. TellsItself fields.scale (map_of sizes fields.scale).end (story fields main names finished strings tables))
-    (sizes-numbered number cells)
-    (stories_tell_themselves contents fields six)
+    (sizes-numbered number cells) (stories_tell_themselves contents fields six)

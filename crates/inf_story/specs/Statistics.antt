@@ -18,12 +18,10 @@ counts_of symbols code tables = record {
 
 -- the report with a line for each count, in this order
 abbrev pub with_counts : Counts → Reported → Reported
-with_counts c r =
-    with_statistic (codes "routines") c.routines (with_statistic (codes "actions") c.actions
+with_counts c r = with_statistic (codes "routines") c.routines (with_statistic (codes "actions") c.actions
     (with_statistic (codes "verbs") c.verbs (with_statistic (codes "objects") c.objects
     (with_statistic (codes "words") c.words (with_statistic (codes "symbols") c.symbols r)))))
 
 abbrev pub with_statistics : Statistics → Reported → Reported
-with_statistics s r =
-    with_statistic (codes "story") s.sizes.story (with_statistic (codes "readable") s.sizes.readable
+with_statistics s r = with_statistic (codes "story") s.sizes.story (with_statistic (codes "readable") s.sizes.readable
     (with_statistic (codes "strings") s.sizes.strings (with_statistic (codes "code") s.sizes.code (with_counts s.counts r))))

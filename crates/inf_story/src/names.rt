@@ -10,8 +10,6 @@ use inf_scanner::Place;
 use inf_settings::bounds::Bounds;
 use std::alloc::{AllocError, Global};
 
-/// Returns the value in a story of a name with `meaning`: a number, a place in an area, or a word of the dictionary;
-/// `None` for a meaning that is no number by itself.
 fn value_of(meaning: Meaning) -> Option<Value>
     ensures { result ≡ value_of meaning }
 {
@@ -42,8 +40,7 @@ fn value_at<B: Bounds>(names: &Symbols<Place, B>, number: usize) -> Option<Value
     value_of(names.meaning_at(number)?)
 }
 
-/// Returns the value of each of `names` in the story, in order; or `None` where one of them has no value, as one that
-/// was not declared.
+/// Returns the value of each of `names` in the story, in order; or `None` where one of them has no value, as one that was not declared.
 pub fn values_of<B: Bounds>(
     alloc: Global,
     names: &Symbols<Place, B>,

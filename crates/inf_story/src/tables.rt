@@ -25,8 +25,7 @@ const THREE_SPACES: [u8; 2] = [0x80, 0x00];
 /// An abbreviation that is not declared: the address in words of the first low string.
 const NO_ABBREVIATION: Value = Value::Known(32);
 
-// Each area with fixups puts them behind others. Their list has no limit, so that a table is left unwritten only for
-// want of memory.
+// Each area with fixups puts them behind others. Their list has no limit, so that a table is left unwritten only for want of memory.
 
 /// Returns the area of the low strings: the first one and those behind it.
 #[tactic(auto, using(crate::proofs::Areas::low_are))]
@@ -39,8 +38,7 @@ fn low_strings<B: Bounds>(alloc: Global, behind: &LowStrings<B>) -> Result<Paged
     Ok(area)
 }
 
-/// Returns the entries of the table of abbreviations that are not declared, behind `declared` that are. There are 64 of
-/// both together.
+/// Returns the entries of the table of abbreviations that are not declared, behind `declared` that are. There are 64 of both together.
 #[tactic(auto, using(crate::proofs::Undeclared::left_taken, crate::proofs::Undeclared::left_of))]
 fn undeclared(declared: usize) -> &'static [Value]
     ensures { values_cells result.now ≡ undeclared (64 - declared) }

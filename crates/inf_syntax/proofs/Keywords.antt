@@ -1,7 +1,7 @@
 -- A name's atom tells which word it is.
-use Rattle.std.proofs.Common.{◌≡◌, ℕ, ◌+◌, ◌-◌, ◌≤◌, ◌<◌, List, [], ◌∷◌, suc, Bool, true, false, length, slice_get, nat_lt, if◌then◌else◌}
+use Rattle.std.proofs.Common.{◌≡◌, ℕ, ◌+◌, ◌-◌, ◌≤◌, List, [], ◌∷◌, suc, Bool, true, false, length, slice_get, nat_lt, if◌then◌else◌}
 use Rattle.std.proofs.Common.{cond, refl, ap, arith, ◌∙◌}
-use Rattle.std.proofs.lemmas.Bool.{cond-true, cond-false, false_from_ne_true, lt-ltb, ltb-true}
+use Rattle.std.proofs.lemmas.Bool.{cond-false, false_from_ne_true, lt-ltb, ltb-true}
 use Rattle.std.specs.Str.{str_eq_ignore_ascii_case}
 use Rattle.inf_syntax.specs.Atoms.{first_word, keyword_at, keyword_of, name_at, names, place_in}
 use Rattle.inf_syntax.specs.Words.{keywords, words}
@@ -27,8 +27,7 @@ name_is : (is_class : Bool) (place : ℕ) → place ≤ 72 → name_at (first_wo
 name_is true place within =
     let atom = first_word + names + place in
     by_tests atom (omega arith) false (false_from_ne_true (nat_lt atom (first_word + names))
-    (λ e. omega (arith, ltb-true atom (first_word + names) e)))
-    ∙ omega arith
+    (λ e. omega (arith, ltb-true atom (first_word + names) e))) ∙ omega arith
 name_is false place within =
     let atom = first_word + 0 + place in
     by_tests atom (omega arith) true (lt-ltb atom (first_word + names) (omega (arith, within))) ∙ omega arith

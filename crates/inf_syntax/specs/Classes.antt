@@ -52,8 +52,7 @@ ofclass = without classname (directiveword ∷ [])
 
 -- each class, in the order of its number
 abbrev pub classes : List ℕ
-classes =
-    (of_mark mark.Semicolon) ∷ (of_mark mark.Hash) ∷ (of_mark mark.OpenBracket) ∷ name ∷ (of_mark mark.CloseBracket) ∷
+classes = (of_mark mark.Semicolon) ∷ (of_mark mark.Hash) ∷ (of_mark mark.OpenBracket) ∷ name ∷ (of_mark mark.CloseBracket) ∷
     (of_word (codes "abbreviate")) ∷ text ∷ (of_word (codes "array")) ∷ (of_word (codes "class")) ∷ bodyname ∷ (of_word (codes "object")) ∷
     (of_word (codes "nearby")) ∷ ofclass ∷ (of_word (codes "extend")) ∷ word_literal ∷ (of_word (codes "verb")) ∷ (of_mark mark.Arrow) ∷
     (of_mark mark.LongArrow) ∷ (of_word (codes "string")) ∷ (of_word (codes "table")) ∷ (of_word (codes "first")) ∷

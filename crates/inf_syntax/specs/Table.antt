@@ -57,12 +57,10 @@ rules_1 =
     (row (PIECE ∷ FILE ∷ []) ∷ row [] ∷ [])  -- file
     ∷ (row (SEMICOLON ∷ []) ∷ row (HASH ∷ DIRECTIVE ∷ []) ∷ row (DIRECTIVE ∷ []) ∷ [])  -- piece
     ∷ (row (DO_ROUTINE ∷ OPEN_BRACKET ∷ NAME ∷ DIRECTIVE_1 ∷ DO_END_LOCALS ∷ SEMICOLON ∷ DIRECTIVE_2 ∷ DO_END_ROUTINE ∷ CLOSE_BRACKET ∷  -- directive
-    SEMICOLON ∷ []) ∷
-    row (WORD_ABBREVIATE ∷ DO_END_HEADER ∷ TEXT ∷ DO_END_TEXT ∷ DIRECTIVE_3 ∷ SEMICOLON ∷ []) ∷
+    SEMICOLON ∷ []) ∷ row (WORD_ABBREVIATE ∷ DO_END_HEADER ∷ TEXT ∷ DO_END_TEXT ∷ DIRECTIVE_3 ∷ SEMICOLON ∷ []) ∷
     row (WORD_ARRAY ∷ NAME ∷ DIRECTIVE_4 ∷ DO_END_HEADER ∷ DIRECTIVE_5 ∷ SEMICOLON ∷ []) ∷
     row (WORD_CLASS ∷ BODYNAME ∷ DO_END_HEADER ∷ BODY ∷ DO_END_BODY ∷ SEMICOLON ∷ []) ∷
-    row (WORD_OBJECT ∷ DIRECTIVE_6 ∷ OBJECT ∷ []) ∷ row (WORD_NEARBY ∷ OBJECT ∷ []) ∷
-    row (OFCLASS ∷ DIRECTIVE_7 ∷ OBJECT ∷ []) ∷
+    row (WORD_OBJECT ∷ DIRECTIVE_6 ∷ OBJECT ∷ []) ∷ row (WORD_NEARBY ∷ OBJECT ∷ []) ∷ row (OFCLASS ∷ DIRECTIVE_7 ∷ OBJECT ∷ []) ∷
     row (WORD_EXTEND ∷ WORD ∷ DIRECTIVE_8 ∷ DO_END_HEADER ∷ DIRECTIVE_9 ∷ SEMICOLON ∷ []) ∷
     row (WORD_VERB ∷ DIRECTIVE_10 ∷ WORD ∷ DIRECTIVE_11 ∷ DIRECTIVE_12 ∷ SEMICOLON ∷ []) ∷
     row (WHOLE_DIRECTIVE ∷ DO_END_DIRECTIVE ∷ SEMICOLON ∷ []) ∷ [])
@@ -211,8 +209,7 @@ rules_2 =
     ∷ (row (PLAIN_PRIM ∷ []) ∷ row (BRACKETED ∷ []) ∷ [])  -- statement_1
     ∷ (row (PREFIXED ∷ []) ∷ row (MINUS ∷ NEG ∷ DO_NEGATE ∷ AFTER_UNARY ∷ []) ∷ [])  -- statement_2
     ∷ (row (WORD_IF ∷ IF_REST ∷ []) ∷ row (WORD_WHILE ∷ WHILE_REST ∷ []) ∷ row (WORD_DO ∷ DO_REST ∷ []) ∷  -- statement_3
-    row (WORD_FOR ∷ FOR_REST ∷ []) ∷ row (WORD_OBJECTLOOP ∷ OBJECTLOOP_REST ∷ []) ∷ row (WORD_SWITCH ∷ SWITCH_REST ∷ []) ∷
-    [])
+    row (WORD_FOR ∷ FOR_REST ∷ []) ∷ row (WORD_OBJECTLOOP ∷ OBJECTLOOP_REST ∷ []) ∷ row (WORD_SWITCH ∷ SWITCH_REST ∷ []) ∷ [])
     ∷ (row (WORD_PRINT ∷ []) ∷ row (WORD_PRINT_RET ∷ []) ∷ [])  -- statement_4
     ∷ (row (WORD_REMOVE ∷ []) ∷ row (WORD_SPACES ∷ []) ∷ [])  -- statement_5
     ∷ (row (WORD_BREAK ∷ []) ∷ row (WORD_CONTINUE ∷ []) ∷ row (WORD_QUIT ∷ []) ∷ row (WORD_RTRUE ∷ []) ∷  -- plain_word
@@ -221,34 +218,27 @@ rules_2 =
     ∷ (row (EXPRESSION_TAIL ∷ END ∷ []) ∷ [])  -- statement_end
     ∷ (row (DO_BEGIN ∷ END ∷ []) ∷ row (OPEN_BRACE ∷ MARK_STATEMENT_1 ∷ CLOSE_BRACE ∷ []) ∷  -- mark_statement
     row (DO_BEGIN ∷ DOT ∷ NAME ∷ END ∷ []) ∷ row (DO_BEGIN ∷ LESS ∷ ACT ∷ GREATER ∷ END ∷ []) ∷
-    row (DO_BEGIN ∷ DOUBLE_LESS ∷ ACT ∷ DOUBLE_GREATER ∷ END ∷ []) ∷ row (DO_BEGIN ∷ AT ∷ NAME ∷ ASSEMBLY ∷ END ∷ []) ∷
-    [])
+    row (DO_BEGIN ∷ DOUBLE_LESS ∷ ACT ∷ DOUBLE_GREATER ∷ END ∷ []) ∷ row (DO_BEGIN ∷ AT ∷ NAME ∷ ASSEMBLY ∷ END ∷ []) ∷ [])
     ∷ (row (STATEMENT ∷ MARK_STATEMENT_1 ∷ []) ∷ row [] ∷ [])  -- mark_statement_1
     ∷ (row (DO_OUTER_MAYBE ∷ TEXT ∷ TEXT_STATEMENT_1 ∷ []) ∷ [])  -- text_statement
     ∷ (row (DO_PRINT_TEXT ∷ END ∷ []) ∷ row (DO_OUTER_SURE ∷ DO_TEXT ∷ TEXT_MORE ∷ []) ∷ [])  -- text_statement_1
     ∷ (row (OPERATOR ∷ STATEMENT_END ∷ []) ∷ row (COMMA ∷ ASSIGN ∷ DO_COMMA ∷ STATEMENT_END ∷ []) ∷ [])  -- text_more
     ∷ (row (DO_OPEN_IF ∷ OPEN_PARENTHESIS ∷ DO_BEGIN ∷ DO_OUTER ∷ EXPRESSION ∷ DO_END_IF ∷ CLOSE_PARENTHESIS ∷ STATEMENT ∷ ELSE_PART ∷  -- if_rest
-    []) ∷
-    [])
+    []) ∷ [])
     ∷ (row (DO_ELSE ∷ WORD_ELSE ∷ STATEMENT ∷ DO_CLOSE ∷ []) ∷ row_unless 115 (DO_CLOSE ∷ []) ∷ [])  -- else_part
     ∷ (row (DO_OPEN_WHILE ∷ OPEN_PARENTHESIS ∷ DO_BEGIN ∷ DO_OUTER ∷ EXPRESSION ∷ DO_END_WHILE ∷ CLOSE_PARENTHESIS ∷ STATEMENT ∷  -- while_rest
-    DO_CLOSE ∷ []) ∷
-    [])
+    DO_CLOSE ∷ []) ∷ [])
     ∷ (row (DO_OPEN_DO ∷ STATEMENT ∷ WORD_UNTIL ∷ DO_UNTIL ∷ OPEN_PARENTHESIS ∷ DO_BEGIN ∷ DO_OUTER ∷ EXPRESSION ∷ DO_END_UNTIL ∷  -- do_rest
-    CLOSE_PARENTHESIS ∷ SEMICOLON ∷ DO_CLOSE ∷ []) ∷
-    [])
+    CLOSE_PARENTHESIS ∷ SEMICOLON ∷ DO_CLOSE ∷ []) ∷ [])
     ∷ (row (DO_OPEN_FOR ∷ OPEN_PARENTHESIS ∷ FOR_REST_1 ∷ DO_FOR_TOP ∷ COLON ∷ FOR_REST_2 ∷ COLON ∷ FOR_REST_3 ∷ CLOSE_PARENTHESIS ∷  -- for_rest
-    STATEMENT ∷ DO_CLOSE ∷ []) ∷
-    [])
+    STATEMENT ∷ DO_CLOSE ∷ []) ∷ [])
     ∷ (row (DO_BEGIN ∷ DO_OUTER ∷ EXPRESSION ∷ DO_END_FOR_START ∷ []) ∷ row [] ∷ [])  -- for_rest_1
     ∷ (row (DO_BEGIN ∷ DO_OUTER ∷ EXPRESSION ∷ DO_END_FOR_TEST ∷ []) ∷ row [] ∷ [])  -- for_rest_2
     ∷ (row (DO_BEGIN ∷ DO_OUTER ∷ EXPRESSION ∷ DO_END_FOR_STEP ∷ []) ∷ row [] ∷ [])  -- for_rest_3
     ∷ (row (DO_OPEN_OBJECTLOOP ∷ OPEN_PARENTHESIS ∷ DO_BEGIN ∷ DO_OUTER ∷ EXPRESSION ∷ DO_END_OBJECTLOOP ∷ DO_LOOP ∷ CLOSE_PARENTHESIS ∷  -- objectloop_rest
-    STATEMENT ∷ DO_CLOSE ∷ []) ∷
-    [])
+    STATEMENT ∷ DO_CLOSE ∷ []) ∷ [])
     ∷ (row (DO_OPEN_SWITCH ∷ OPEN_PARENTHESIS ∷ DO_BEGIN ∷ DO_OUTER ∷ EXPRESSION ∷ DO_END_SWITCH ∷ CLOSE_PARENTHESIS ∷ OPEN_BRACE ∷  -- switch_rest
-    SWITCH_REST_1 ∷ CLOSE_BRACE ∷ DO_CLOSE ∷ []) ∷
-    [])
+    SWITCH_REST_1 ∷ CLOSE_BRACE ∷ DO_CLOSE ∷ []) ∷ [])
     ∷ (row (FIRST_CASE ∷ SWITCH_REST_2 ∷ []) ∷ row [] ∷ [])  -- switch_rest_1
     ∷ (row (SWITCH_ITEM ∷ SWITCH_REST_2 ∷ []) ∷ row [] ∷ [])  -- switch_rest_2
     ∷ (row (ITEM ∷ PRINT_REST_1 ∷ END ∷ []) ∷ [])  -- print_rest
@@ -291,8 +281,7 @@ rules_3 =
     row (MINUS ∷ NEG ∷ DO_NEGATE ∷ AFTER_UNARY ∷ []) ∷ [])
     ∷ (row (DO_OUTER_END ∷ RESERVED ∷ DO_NAME ∷ CLOSE_PARENTHESIS ∷ RULED ∷ []) ∷  -- bracket_item
     row (OPERAND ∷ DO_NAME ∷ BRACKET_NAME ∷ []) ∷
-    row (DO_OUTER_SURE ∷ OTHER_ASSIGN ∷ EXPRESSION_TAIL ∷ DO_BRACKETED ∷ CLOSE_PARENTHESIS ∷ AFTER_PRIM ∷ DO_PRINT_VALUE ∷ []) ∷
-    [])
+    row (DO_OUTER_SURE ∷ OTHER_ASSIGN ∷ EXPRESSION_TAIL ∷ DO_BRACKETED ∷ CLOSE_PARENTHESIS ∷ AFTER_PRIM ∷ DO_PRINT_VALUE ∷ []) ∷ [])
     ∷ (row (CLOSE_PARENTHESIS ∷ BRACKET_NAME_1 ∷ []) ∷  -- bracket_name
     row (DO_OUTER_SURE ∷ BRACKET_NAME_2 ∷ DO_BRACKETED ∷ CLOSE_PARENTHESIS ∷ AFTER_PRIM ∷ DO_PRINT_VALUE ∷ []) ∷ [])
     ∷ (row (RULED ∷ []) ∷ row (DO_OUTER_SURE ∷ DO_BRACKETED ∷ OTHER_OPERATOR ∷ DO_PRINT_VALUE ∷ []) ∷  -- bracket_name_1
@@ -300,8 +289,7 @@ rules_3 =
     ∷ (row (OPERATOR ∷ EXPRESSION_TAIL ∷ []) ∷ row (COMMA ∷ ASSIGN ∷ DO_COMMA ∷ EXPRESSION_TAIL ∷ []) ∷ [])  -- bracket_name_2
     ∷ (row (DO_RULE ∷ DO_OUTER ∷ PRIM ∷ AFTER_PRIM ∷ DO_PRINT_RULE ∷ []) ∷ [])  -- ruled
     ∷ (row (MARK_STATEMENT ∷ []) ∷ row (DO_BEGIN ∷ TEXT_STATEMENT ∷ []) ∷  -- top_item
-    row (DO_BEGIN ∷ DO_OUTER ∷ CASENAME ∷ DO_NAME ∷ TOP_ITEM_1 ∷ []) ∷
-    row (DO_BEGIN ∷ DO_OUTER ∷ WORD_DEFAULT ∷ TOP_ITEM_2 ∷ []) ∷
+    row (DO_BEGIN ∷ DO_OUTER ∷ CASENAME ∷ DO_NAME ∷ TOP_ITEM_1 ∷ []) ∷ row (DO_BEGIN ∷ DO_OUTER ∷ WORD_DEFAULT ∷ TOP_ITEM_2 ∷ []) ∷
     row (DO_BEGIN ∷ DO_OUTER ∷ TOP_ITEM_3 ∷ AFTER_PRIM ∷ STATEMENT_END ∷ []) ∷
     row (DO_BEGIN ∷ DO_OUTER ∷ TOP_ITEM_4 ∷ STATEMENT_END ∷ []) ∷ row (WORD_IF ∷ TOP_ITEM_5 ∷ []) ∷
     row (WORD_WHILE ∷ TOP_ITEM_6 ∷ []) ∷ row (WORD_DO ∷ TOP_ITEM_7 ∷ []) ∷ row (WORD_FOR ∷ TOP_ITEM_8 ∷ []) ∷
@@ -355,8 +343,7 @@ rules_3 =
     ∷ (row (RANGE ∷ []) ∷ row [] ∷ [])  -- case_value_1
     ∷ (row (WORD_TO ∷ ENTRY ∷ DO_TO ∷ []) ∷ [])  -- range
     ∷ (row (MARK_STATEMENT ∷ []) ∷ row (DO_BEGIN ∷ DO_OUTER_MAYBE ∷ TEXT ∷ SWITCH_ITEM_1 ∷ []) ∷  -- switch_item
-    row (DO_BEGIN ∷ DO_OUTER ∷ CASENAME ∷ DO_NAME ∷ SWITCH_ITEM_3 ∷ []) ∷
-    row (DO_BEGIN ∷ DO_OUTER ∷ WORD_DEFAULT ∷ SWITCH_ITEM_4 ∷ []) ∷
+    row (DO_BEGIN ∷ DO_OUTER ∷ CASENAME ∷ DO_NAME ∷ SWITCH_ITEM_3 ∷ []) ∷ row (DO_BEGIN ∷ DO_OUTER ∷ WORD_DEFAULT ∷ SWITCH_ITEM_4 ∷ []) ∷
     row (DO_BEGIN ∷ DO_OUTER ∷ SWITCH_ITEM_6 ∷ SWITCH_ITEM_7 ∷ []) ∷
     row (DO_BEGIN ∷ DO_OUTER ∷ MINUS ∷ SWITCH_ITEM_8 ∷ []) ∷ row (DO_BEGIN ∷ DO_OUTER ∷ PREFIXED ∷ STATEMENT_END ∷ []) ∷
     row (DO_MAYBE_DEEPER ∷ WORD_IF ∷ SWITCH_ITEM_10 ∷ []) ∷ row (DO_MAYBE_DEEPER ∷ WORD_WHILE ∷ SWITCH_ITEM_11 ∷ []) ∷

@@ -4,8 +4,7 @@ use Rattle.inf_syntax.specs.declared.words.Keyword.{Keyword}
 use Rattle.inf_syntax.specs.declared.words.Keyword.TheVariants as keyword
 
 abbrev pub words : List (List ℕ)
-words =
-    codes "abbreviate" ∷ codes "additive" ∷ codes "alias" ∷ codes "array" ∷ codes "attribute" ∷ codes "break" ∷ codes "class" ∷
+words = codes "abbreviate" ∷ codes "additive" ∷ codes "alias" ∷ codes "array" ∷ codes "attribute" ∷ codes "break" ∷ codes "class" ∷
     codes "constant" ∷ codes "continue" ∷ codes "default" ∷ codes "do" ∷ codes "else" ∷ codes "end" ∷ codes "endif" ∷ codes "error" ∷
     codes "extend" ∷ codes "fake_action" ∷ codes "fatalerror" ∷ codes "first" ∷ codes "for" ∷ codes "give" ∷ codes "global" ∷ codes "has" ∷
     codes "hasnt" ∷ codes "if" ∷ codes "ifdef" ∷ codes "iffalse" ∷ codes "ifndef" ∷ codes "ifnot" ∷ codes "iftrue" ∷ codes "in" ∷
@@ -18,8 +17,7 @@ words =
 
 -- the words of the grammar as keywords, in the order of `words`
 unfoldable pub keywords : List Keyword
-keywords =
-    keyword.Abbreviate ∷ keyword.Additive ∷ keyword.Alias ∷ keyword.Array ∷ keyword.Attribute ∷ keyword.Break ∷ keyword.Class ∷
+keywords = keyword.Abbreviate ∷ keyword.Additive ∷ keyword.Alias ∷ keyword.Array ∷ keyword.Attribute ∷ keyword.Break ∷ keyword.Class ∷
     keyword.Constant ∷ keyword.Continue ∷ keyword.Default ∷ keyword.Do ∷ keyword.Else ∷ keyword.End ∷ keyword.Endif ∷ keyword.Error ∷
     keyword.Extend ∷ keyword.FakeAction ∷ keyword.Fatalerror ∷ keyword.First ∷ keyword.For ∷ keyword.Give ∷ keyword.Global ∷ keyword.Has ∷
     keyword.Hasnt ∷ keyword.If ∷ keyword.Ifdef ∷ keyword.Iffalse ∷ keyword.Ifndef ∷ keyword.Ifnot ∷ keyword.Iftrue ∷ keyword.In ∷

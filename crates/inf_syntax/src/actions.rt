@@ -2,7 +2,7 @@
 
 /// An action of the grammar. Where it speaks of the last token, that is the one taken last.
 #[rattlefmt::skip]
-#[derive(Clone, Copy)]
+#[derive(Clone, Copy, Debug, PartialEq, Eq)]
 pub enum Action {
     Routine, EndLocals, EndRoutine, EndHeader, EndText, EndBody, EndDirective, Local, Arrow, VerbWord, Outer, Name, EndEntry, EndAlone,
     Semicolon, Hold, EndClass, EndProperty, EndValue, EndEmbedded, Negate, EndAttribute, EndLine, Token, Comma, Not, BitNot, Assign, And,

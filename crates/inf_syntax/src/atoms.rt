@@ -61,7 +61,6 @@ pub fn keyword_at(atom: u8) -> Option<Keyword>
     known_keywords().get(name_at(atom) as usize).copied()
 }
 
-/// Returns the number of the name that an atom is, of a class or not; 73 or more, if it is no name's.
 fn name_at(atom: u8) -> u8
     ensures { result ≡ name_at atom }
 {

@@ -37,12 +37,11 @@ refused_as found GiveFault.Full h = ap (option_map given_fault) h
 refused_as found GiveFault.Memory h = tt
 
 few_in : (s : Size) → s.fixups ≤ s.bytes → (with_table s).fixups ≤ (with_table s).bytes
-few_in s h = go (nat_lt 0 s.individuals)
-  where
-    go : (b : Bool) → (if b then record s { bytes = s.bytes + 5; fixups = s.fixups + 1 } else s).fixups ≤
-        (if b then record s { bytes = s.bytes + 5; fixups = s.fixups + 1 } else s).bytes
-    go true = omega (arith, h)
-    go false = h
+few_in s h = go (nat_lt 0 s.individuals) where
+  go : (b : Bool) → (if b then record s { bytes = s.bytes + 5; fixups = s.fixups + 1 } else s).fixups ≤
+      (if b then record s { bytes = s.bytes + 5; fixups = s.fixups + 1 } else s).bytes
+  go true = omega (arith, h)
+  go false = h
 
 head_few : (w : Owner) (n k : ℕ) → head_fixups w ≤ head_bytes w n k
 head_few Owner.Object n k = omega arith
@@ -78,8 +77,7 @@ pub ends : (limits : Limits) (w : WorldOf) (latest new : List ℕ) (bytes fixups
 ends limits w latest new bytes fixups h e later =
     let o = ended w.body in
     let count : length (w.objects ++ o ∷ []) ≡ length w.objects + 1 = omega (arith, length-append w.objects (o ∷ [])) in
-    let sum = sum_by_push object_bytes w.objects o in
-    let sums = sum_by_push object_fixups w.objects o in
+    let sum = sum_by_push object_bytes w.objects o in let sums = sum_by_push object_fixups w.objects o in
     record {
       bytes_are = omega (arith, h.bytes_are, sum);
       fixups_are = omega (arith, h.fixups_are, sums);
@@ -100,8 +98,7 @@ ends limits w latest new bytes fixups h e later =
 
 -- a fault that came through a `?`
 pub told_by : (r : Result (Unit {0}) WorldFault) (P : Unit {0} → Type 0) (Q : WorldFault → Type 0) (g : WorldFault)
-    → IsErrAnd r (λ f. f ≡ g) →
-    Q g → MatchResult r P Q
+    → IsErrAnd r (λ f. f ≡ g) → Q g → MatchResult r P Q
 told_by (Ok u) P Q g h q = absurd h
 told_by (Err f) P Q g h q = subst Q (sym h) q
 
@@ -117,8 +114,7 @@ class_fault_is limits w number class e some is =
 
 -- a body that belongs to nothing has other properties
 pub lost_stays : (limits : Limits) (w : WorldOf) (o : Open) (latest : List ℕ) (bytes fixups : ℕ) → IsWorld limits w latest bytes fixups →
-    w.body.properties.owner ≡ Owner.Nothing → o.owner ≡ Owner.Nothing
-    → IsWorld limits (with_properties o w) latest bytes fixups
+    w.body.properties.owner ≡ Owner.Nothing → o.owner ≡ Owner.Nothing → IsWorld limits (with_properties o w) latest bytes fixups
 lost_stays limits w o latest bytes fixups h e f =
     let table = ap (λ x. table_bytes x (all o)) f ∙ nothing_bytes (all o) in
     let head = ap (λ x. head_bytes x (length w.body.name) (length w.body.classes)) (f ∙ sym e) in

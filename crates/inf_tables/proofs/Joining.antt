@@ -72,8 +72,7 @@ all_table_places objects = refl
 
 pub first_tables : tables_from 0 first_objects
     ≡ bare_cells (17 ∷ 17 ∷ 155 ∷ 24 ∷ []) ++ bare_cells (18 ∷ 135 ∷ 61 ∷ 72 ∷ 228 ∷ 165 ∷ []) ++ bare_cells
-    (18 ∷ 244 ∷ 107 ∷ 46 ∷ 205 ∷ 69 ∷ [])
-    ++ bare_cells (19 ∷ 25 ∷ 93 ∷ 211 ∷ 176 ∷ 165 ∷ [])
+    (18 ∷ 244 ∷ 107 ∷ 46 ∷ 205 ∷ 69 ∷ []) ++ bare_cells (19 ∷ 25 ∷ 93 ∷ 211 ∷ 176 ∷ 165 ∷ [])
 unfolding first_names all_falling
 first_tables = refl
 
@@ -99,8 +98,7 @@ pub entries_are : (parents : List ℕ) (part : ℕ) (objects : List Object) → 
 entries_are parents part [] h = refl
 entries_are parents part (o ∷ objects) h =
     ap (λ (l : Link). entry_cells (shown_attributes o.owner o.attributes) o.parent l.sibling l.child part ++ entries_by (links_of parents)
-    (part + 1) objects)
-    (link_is parents part (omega (arith, h)))
+    (part + 1) objects) (link_is parents part (omega (arith, h)))
     ∙ ap (λ cs. object_cells parents part o ++ cs) (entries_are parents (part + 1) objects (omega (arith, h)))
 
 -- the cells of four entries, joined from the left or the right
@@ -140,15 +138,13 @@ hung_links objects parents h is =
     )
 
 pub length-links : (parents : List ℕ) → length (links_of parents) ≡ length parents
-length-links parents = each_count 1 (length parents)
-  where
-    each_count : (first count : ℕ) → length (each_from first count (link_of parents)) ≡ count
-    each_count first zero = refl
-    each_count first (suc count) = omega (arith, each_count (first + 1) count)
+length-links parents = each_count 1 (length parents) where
+  each_count : (first count : ℕ) → length (each_from first count (link_of parents)) ≡ count
+  each_count first zero = refl
+  each_count first (suc count) = omega (arith, each_count (first + 1) count)
 
 pub enough_links : (objects : List Object) (parents : List ℕ) (links : List Link) → parents ≡ parents_of (all_objects objects) →
-    links ≡ links_of parents
-    → length links ≡ 4 + length objects
+    links ≡ links_of parents → length links ≡ 4 + length objects
 enough_links objects parents links is made = ap length made ∙ length-links parents ∙ ap length is ∙ four_and_more objects
 
 pub all_written : (objects : List Object) (parents : List ℕ) (links : List Link) (cells : List Cell) →
@@ -156,8 +152,7 @@ pub all_written : (objects : List Object) (parents : List ℕ) (links : List Lin
     → cells ≡ entries_by links 0 first_objects ++ entries_by links 4 objects → cells ≡ objects_from (parents_of (all_objects objects)) 0
     (all_objects objects)
 all_written objects parents links cells is made written =
-    let all = parents_of (all_objects objects) in
-    let joined = written ∙ sym (all_entries links objects) in
+    let all = parents_of (all_objects objects) in let joined = written ∙ sym (all_entries links objects) in
     joined ∙ ap (λ l. entries_by l 0 (all_objects objects)) (made ∙ ap links_of is)
     ∙ entries_are all 0 (all_objects objects) (omega (arith, length-parents (all_objects objects)))
 
@@ -173,8 +168,7 @@ pub defaults_joined : (ds : List DeclaredProperty) →
     ++ values_cells (replicate (60 - length ds) (Value.Known 0)) ≡ values_cells (all_defaults ds)
 defaults_joined ds =
     let own = map (λ (d : DeclaredProperty). d.default) ds in
-    let front = replicate 3 (Value.Known 0) in
-    let rest = replicate (60 - length ds) (Value.Known 0) in
+    let front = replicate 3 (Value.Known 0) in let rest = replicate (60 - length ds) (Value.Known 0) in
     ap (λ cs. cs ++ values_cells rest) (sym (values_cells-append front own)) ∙ sym (values_cells-append (front ++ own) rest)
 
 -- numbers that are known later
@@ -218,20 +212,17 @@ zeros_known (suc n) = zeros_known n
 
 defaults_later : (ds : List DeclaredProperty) → values_later (map (λ (d : DeclaredProperty). d.default) ds) ≡ later_defaults ds
 defaults_later [] = refl
-defaults_later (d ∷ ds) = one d.default (defaults_later ds)
-  where
-    one : (v : Value) → values_later (map (λ (d : DeclaredProperty). d.default) ds) ≡ later_defaults ds
-        → values_later (v ∷ map (λ (d : DeclaredProperty). d.default) ds) ≡ later_in v + later_defaults ds
-    one (Value.Known n) later = omega (arith, later)
-    one (Value.Later t) later = omega (arith, later)
+defaults_later (d ∷ ds) = one d.default (defaults_later ds) where
+  one : (v : Value) → values_later (map (λ (d : DeclaredProperty). d.default) ds) ≡ later_defaults ds
+      → values_later (v ∷ map (λ (d : DeclaredProperty). d.default) ds) ≡ later_in v + later_defaults ds
+  one (Value.Known n) later = omega (arith, later)
+  one (Value.Later t) later = omega (arith, later)
 
 pub all_defaults_later : (ds : List DeclaredProperty) → later_count (values_cells (all_defaults ds)) ≡ later_defaults ds
 all_defaults_later ds =
     let own = map (λ (d : DeclaredProperty). d.default) ds in
-    let front = replicate 3 (Value.Known 0) in
-    let rest = replicate (60 - length ds) (Value.Known 0) in
-    values_laters (all_defaults ds)
-    ∙ omega (
+    let front = replicate 3 (Value.Known 0) in let rest = replicate (60 - length ds) (Value.Known 0) in
+    values_laters (all_defaults ds) ∙ omega (
       arith,
       values_later-append (front ++ own) rest,
       values_later-append front own,

@@ -17,13 +17,12 @@ Counts o m = (m.table.bytes + m.individual_table.bytes + held_by o.owner o ≡ o
     (m.table.later + m.individual_table.later + 1 ≡ object_fixups o)
 
 pub counts : (o : Object) (m : Measure) → is_lost o.owner ≡ false → CountedBy o.owner o m → Counts o m
-counts o m e h = go o.owner e h
-  where
-    go : (w : Owner) → is_lost w ≡ false → CountedBy w o m → (m.table.bytes + m.individual_table.bytes + held_by w o ≡ object_bytes o) ×
-        (m.table.later + m.individual_table.later + 1 ≡ object_fixups o)
-    go Owner.Object e h = (omega (arith, h.0), h.1)
-    go Owner.Class e h = h
-    go Owner.Nothing e h = cc
+counts o m e h = go o.owner e h where
+  go : (w : Owner) → is_lost w ≡ false → CountedBy w o m → (m.table.bytes + m.individual_table.bytes + held_by w o ≡ object_bytes o) ×
+      (m.table.later + m.individual_table.later + 1 ≡ object_fixups o)
+  go Owner.Object e h = (omega (arith, h.0), h.1)
+  go Owner.Class e h = h
+  go Owner.Nothing e h = cc
 
 -- the first of the objects that are left
 pub left_is : (objects : List Object) (i : ℕ) (o : Object) → i < length objects → o ≡ get_or objects i o →
@@ -67,8 +66,7 @@ pub record Told (part : ℕ) (o : Object) (m : Measure) : Type 0 where
 pub left_next : (most : ℕ) (objects : List Object) (i : ℕ) (o : Object) (all m : Measure) → i < length objects → o ≡ get_or objects i o
     → Left most objects i all → Told (4 + i) o m → Left most objects (i + 1) (with_measure all m)
 left_next most objects i o all m h is left told =
-    let rest = drop (i + 1) objects in
-    let here = left_is objects i o h is in
+    let rest = drop (i + 1) objects in let here = left_is objects i o h is in
     let next : 4 + i + 1 ≡ 4 + (i + 1) = omega arith in
     let tables = ap (tables_from (4 + i)) here ∙ ap (λ k. table_cells (4 + i) o ++ tables_from k rest) next in
     let individual = ap individual_tables here in
@@ -111,8 +109,7 @@ left_next most objects i o all m h is left told =
       later = omega (arith, left.later, fixups, told.counts.1, ap length here);
     }
 
--- Where tables begin
--- one more table in front
+-- Where tables begin one more table in front
 front_more : (front : List ℕ) (first rest : List Cell) → front ++ bytes_of (first ++ rest) ≡ (front ++ bytes_of first) ++ bytes_of rest
 front_more front first rest = ap (λ bs. front ++ bs) (bytes_of-append first rest) ∙ sym (append_assoc front (bytes_of first) (bytes_of rest))
 
@@ -131,8 +128,7 @@ table_behind front at part (suc n) (o ∷ objects) e h =
     let there : part + 1 + n ≡ part + suc n = omega arith in
     ap (drop place) (front_more front (table_cells part o) (tables_from (part + 1) objects))
     ∙ table_behind (front ++ bytes_of (table_cells part o)) (at + length (bytes_of (table_cells part o))) (part + 1) n objects
-    (front_length front (bytes_of (table_cells part o)) at e) (omega (arith, h))
-    ∙ ap (λ k. bytes_of (tables_from k (drop n objects))) there
+    (front_length front (bytes_of (table_cells part o)) at e) (omega (arith, h)) ∙ ap (λ k. bytes_of (tables_from k (drop n objects))) there
 
 pub table_placed : (n : ℕ) (objects : List Object) → n < length objects
     → drop (get_or (table_places_from 0 0 objects) n 0) (bytes_of (tables_from 0 objects)) ≡ bytes_of (tables_from n (drop n objects))

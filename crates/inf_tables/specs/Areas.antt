@@ -15,8 +15,7 @@ first_object name =
 
 -- their names, packed
 unfoldable pub first_names : List (List ℕ)
-first_names =
-    (17 ∷ 17 ∷ 155 ∷ 24 ∷ []) ∷ (18 ∷ 135 ∷ 61 ∷ 72 ∷ 228 ∷ 165 ∷ []) ∷ (18 ∷ 244 ∷ 107 ∷ 46 ∷ 205 ∷ 69 ∷ [])
+first_names = (17 ∷ 17 ∷ 155 ∷ 24 ∷ []) ∷ (18 ∷ 135 ∷ 61 ∷ 72 ∷ 228 ∷ 165 ∷ []) ∷ (18 ∷ 244 ∷ 107 ∷ 46 ∷ 205 ∷ 69 ∷ [])
     ∷ (19 ∷ 25 ∷ 93 ∷ 211 ∷ 176 ∷ 165 ∷ []) ∷ []
 
 abbrev pub first_objects : List Object

@@ -1,5 +1,6 @@
 pub mod LowStrings
 pub mod Tables
+pub mod Totals
 pub mod Faults
 pub mod Objects
 pub mod World

@@ -34,15 +34,12 @@ no_tables = record {
 unfoldable pub more : ℕ → ℕ → ℕ
 more count other = min (count + other) 18446744073709551615
 
--- The number of values in the tables that are known when the story is laid out: in the world as if the open body ended here, first
--- values of variables, entries of arrays, addresses of verbs' lines and of prepositions, and one for each action, each routine that
--- parses and each abbreviation. The addresses of the tables of the first four objects are not counted here: code keeps as many back
--- from its limit.
+-- The number of values in the tables that are known when the story is laid out: in the world as if the open body ended here, first values
+-- of variables, entries of arrays, addresses of verbs' lines and of prepositions, and one for each action, each routine that parses and
+-- each abbreviation. The addresses of the tables of the first four objects are not counted here: code keeps as many back from its limit.
 abbrev pub references : AllTables → ℕ
-references t =
-    more (more (more (fixups_now t.world - 4) (laters t.globals)) (arrays_laters (all_of t.arrays)))
-    (more (more (verbs_laters t.verbs.list) (more (length t.actions.routines) (length t.parsing)))
-    (length t.low_strings.abbreviations))
+references t = more (more (more (fixups_now t.world - 4) (laters t.globals)) (arrays_laters (all_of t.arrays)))
+    (more (more (verbs_laters t.verbs.list) (more (length t.actions.routines) (length t.parsing))) (length t.low_strings.abbreviations))
 
 -- the references of all tables, with `others` more
 abbrev pub references_with : ℕ → AllTables → ℕ

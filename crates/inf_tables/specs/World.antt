@@ -24,8 +24,7 @@ pub record WorldOf : Type 0 where
   pub body : Body
 
 abbrev pub no_world : WorldOf
-no_world =
-    record { attributes = 0; declared = []; individuals = 0; objects = []; is_open = false; body = nothing_read }
+no_world = record { attributes = 0; declared = []; individuals = 0; objects = []; is_open = false; body = nothing_read }
 
 -- Definitions of counts
 
@@ -184,8 +183,7 @@ abbrev pub with_further_value : Value → WorldOf → WorldOf
 with_further_value v w = with_properties (with_value v w.body.properties) w
 
 abbrev pub further_value_fault : SettingLimits → Value → WorldOf → Option WorldFault
-further_value_fault limits v w =
-    if w.is_open then option_map given_fault (value_fault v (room_of limits w) w.body.properties) else Some
+further_value_fault limits v w = if w.is_open then option_map given_fault (value_fault v (room_of limits w) w.body.properties) else Some
     (WorldFault.Misfit Misfit.NoBody)
 
 abbrev pub with_lost_property : WorldOf → WorldOf
@@ -195,8 +193,7 @@ abbrev pub with_set_attribute : ℕ → Bool → WorldOf → WorldOf
 with_set_attribute number is_given w = record w { body = with_said number is_given w.body }
 
 abbrev pub set_attribute_fault : ℕ → WorldOf → Option WorldFault
-set_attribute_fault number w =
-    if w.is_open then if nat_lt number 48 then None else Some (WorldFault.Misfit Misfit.NotAnAttribute)
+set_attribute_fault number w = if w.is_open then if nat_lt number 48 then None else Some (WorldFault.Misfit Misfit.NotAnAttribute)
     else Some (WorldFault.Misfit Misfit.NoBody)
 
 -- the number 0 is a class that was in error, which gives nothing
@@ -212,12 +209,10 @@ class_by_fault limits None number w = Some (WorldFault.Misfit Misfit.NotAClass)
 class_by_fault limits (Some class) number w = option_map given_fault (join_fault number class (room_beside limits w) w.body)
 
 abbrev pub class_of_fault : SettingLimits → ℕ → WorldOf → Option WorldFault
-class_of_fault limits number w =
-    if w.is_open then if number == 0 then None else class_by_fault limits (class_at number w.objects) number w
+class_of_fault limits number w = if w.is_open then if number == 0 then None else class_by_fault limits (class_at number w.objects) number w
     else Some (WorldFault.Misfit Misfit.NoBody)
 
--- the fault that is told where lists are made before all faults are looked for: the one that was found, or that memory ran out
--- first
+-- the fault that is told where lists are made before all faults are looked for: the one that was found, or that memory ran out first
 abbrev pub IsRefused : Option WorldFault → WorldFault → Type 0
 IsRefused found WorldFault.Memory = Unit {0}
 IsRefused found refused = found ≡ Some refused

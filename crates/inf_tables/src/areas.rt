@@ -217,8 +217,7 @@ fn class_number_cells(alloc: Global, objects: &[Object]) -> Result<Cells, AllocE
 /// Returns the numbers of the classes and a 0, as cells.
 #[tactic(auto, using(crate::proofs::Joining::all_classes))]
 pub(crate) fn class_cells(alloc: Global, objects: &[Object]) -> Result<Cells, AllocError>
-    ensures { IfOk result (λ cells.
-        cells ≡ values_cells (class_values (class_numbers_from 1 (all_objects objects.now))) ++ word_cells 0) }
+    ensures { IfOk result (λ cells. cells ≡ values_cells (class_values (class_numbers_from 1 (all_objects objects.now))) ++ word_cells 0) }
 {
     let mut cells = class_number_cells(alloc, objects)?;
     cells.word(0)?;

@@ -20,7 +20,7 @@ pub enum Limit {
 }
 
 /// An entry that is out of place, or that names nothing of the kind that it needs.
-#[derive(Clone, Copy)]
+#[derive(Clone, Copy, Debug)]
 pub enum Misfit {
     /// A header inside of a body.
     BodyIsOpen,
@@ -41,7 +41,7 @@ pub enum Misfit {
 }
 
 /// A count that a setting bounds.
-#[derive(Clone, Copy)]
+#[derive(Clone, Copy, Debug)]
 pub enum WorldSetting {
     /// The number of objects.
     Objects,
@@ -51,7 +51,7 @@ pub enum WorldSetting {
 
 /// The reason for which something was not added. `Full` is told where no limit or misfit is found, and `Memory` last; of
 /// a class, whose lists are made first, `Memory` may come before a limit of values or room.
-#[derive(Clone, Copy)]
+#[derive(Clone, Copy, Debug)]
 pub enum WorldFault {
     Limit(Limit),
     Misfit(Misfit),

@@ -26,8 +26,7 @@ pub fn table_at_its_place<B: Bounds>(world: &World<B>, number: usize)
 /// areas have as many numbers that are known later as the world counts.
 pub fn written_as_counted<B: Bounds>(world: &World<B>)
     ensures bytes { length (bytes_of (area_cells WorldArea.PropertyTables world.now)) + length
-        (bytes_of (area_cells WorldArea.IndividualTables world.now))
-        + held_bytes world.now.objects ≡ ended_bytes world.now.objects }
+        (bytes_of (area_cells WorldArea.IndividualTables world.now)) + held_bytes world.now.objects ≡ ended_bytes world.now.objects }
     ensures later { later_count (area_cells WorldArea.PropertyDefaults world.now) + later_count (area_cells WorldArea.Objects world.now)
         + later_count (area_cells WorldArea.PropertyTables world.now) + later_count (area_cells WorldArea.ClassNumbers world.now)
         + later_count (area_cells WorldArea.IndividualTables world.now) ≡ ended_fixups world.now.objects + later_defaults

@@ -10,9 +10,8 @@ use std::marker::{Model, PhantomData};
 /// The number of bytes of the first low string, three spaces, which each story has.
 const FIRST_BYTES: usize = 2;
 
-/// The packed texts of a story's low strings, one behind the other in the order in which they came, behind the first
-/// one, which is not among them. Each is of whole words, so that it begins at an even address (Z-Machine Standard 1.1,
-/// sections 1.2.2 and 3.3).
+/// The packed texts of a story's low strings, one behind the other in the order in which they came, behind the first one, which is not
+/// among them. Each is of whole words, so that it begins at an even address (Z-Machine Standard 1.1, sections 1.2.2 and 3.3).
 #[derive(Drop)]
 pub struct LowStrings<B: Bounds> {
     bytes: Vec<u8>,

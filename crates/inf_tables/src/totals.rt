@@ -1,9 +1,8 @@
 //! The sizes of a world's tables, and the places where their parts begin.
 ghost use Rattle.std.specs.Prelude.{◌≡◌, ◌+◌, ◌<◌, ◌≤◌, ◌^◌, IfOk, length, sum_by};
-ghost use Rattle.inf_area.specs.Cells.{bytes_of, later_count};
 ghost use Rattle.inf_objects.specs.Objects.{object_bytes, object_fixups};
-ghost use Rattle.inf_tables.specs.{Areas.all_objects, Areas.held_bytes, Areas.individual_places_from, Areas.individual_tables};
-ghost use Rattle.inf_tables.specs.{Areas.table_places_from, Areas.tables_from, World.AreHung};
+ghost use Rattle.inf_tables.specs.{Areas.all_objects, Areas.individual_places_from, Areas.table_places_from, Totals.AreTotals};
+ghost use Rattle.inf_tables.specs.World.{AreHung};
 
 use inf_objects::{Measure, Object, Part, measured};
 use std::alloc::{AllocError, Global};
@@ -31,18 +30,12 @@ fn plus(part: Part, more: Part) -> Part
     }
 }
 
-/// Adds up the bytes of the property tables and of the individual tables of `objects`, and their numbers that are known
-/// later.
+/// Adds up the bytes of the property tables and of the individual tables of `objects`, and their numbers that are known later.
 pub(crate) fn totals(objects: &[Object], most: usize) -> Measure
     requires hung { AreHung most objects.now }
     requires bytes { sum_by object_bytes objects.now < 2 ^ 33 }
     requires fixups { sum_by object_fixups objects.now < 2 ^ 33 }
-    ensures table_bytes { result.table.bytes ≡ length (bytes_of (tables_from 4 objects.now)) }
-    ensures table_later { result.table.later ≡ later_count (tables_from 4 objects.now) }
-    ensures individual_bytes { result.individual_table.bytes ≡ length (bytes_of (individual_tables objects.now)) }
-    ensures individual_later { result.individual_table.later ≡ later_count (individual_tables objects.now) }
-    ensures counted_bytes { result.table.bytes + result.individual_table.bytes + held_bytes objects.now ≡ sum_by object_bytes objects.now }
-    ensures counted_later { result.table.later + result.individual_table.later + length objects.now ≡ sum_by object_fixups objects.now }
+    ensures { AreTotals objects.now result }
 {
     let mut all = NOTHING;
     for object in objects {

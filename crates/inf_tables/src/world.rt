@@ -36,9 +36,8 @@ const LOST_ROOM: Room = Room {
 
 /// Attributes, properties, classes and objects, as far as they were read.
 ///
-/// Attributes number from 0, properties from 4 (1 is `name`), individual properties from 64, objects and classes from 5. The number
-/// 0 is used for names whose declaration was in error: as a parent or a class it gives nothing; as a property it is one like
-/// others.
+/// Attributes number from 0, properties from 4 (1 is `name`), individual properties from 64, objects and classes from 5. The number 0 is
+/// used for names whose declaration was in error: as a parent or a class it gives nothing; as a property it is one like others.
 #[derive(Drop)]
 pub struct World<B: Bounds> {
     alloc: Global,
@@ -128,8 +127,7 @@ impl<B: Bounds> World<B> {
         ensures ok { OnOk result (self.new ≡ with_attribute self.old) }
         ensures number { IfOk result (λ number. number ≡ self.old.attributes) }
         ensures err { OnErr result (self.new ≡ self.old) }
-        ensures fault { let fault = attribute_fault self.old in
-            MatchResult result (λ _. fault ≡ None) (λ refused. fault ≡ Some refused) }
+        ensures fault { let fault = attribute_fault self.old in MatchResult result (λ _. fault ≡ None) (λ refused. fault ≡ Some refused) }
     {
         if self.attributes >= ATTRIBUTES {
             return Err(WorldFault::Limit(Limit::Attributes));
@@ -168,8 +166,7 @@ impl<B: Bounds> World<B> {
         ensures ok { OnOk result (self.new ≡ with_individual self.old) }
         ensures number { IfOk result (λ number. number ≡ 64 + self.old.individuals) }
         ensures err { OnErr result (self.new ≡ self.old) }
-        ensures fault { let fault = individual_fault self.old in
-            MatchResult result (λ _. fault ≡ None) (λ refused. fault ≡ Some refused) }
+        ensures fault { let fault = individual_fault self.old in MatchResult result (λ _. fault ≡ None) (λ refused. fault ≡ Some refused) }
     {
         let number = FIRST_INDIVIDUAL + self.individuals as usize;
         if self.individuals == u32::MAX {
@@ -222,8 +219,7 @@ impl<B: Bounds> World<B> {
     pub fn begin_lost(&mut self) -> Result<(), WorldFault>
         ensures ok { OnOk result (self.new ≡ with_lost_header self.old) }
         ensures err { OnErr result (self.new ≡ self.old) }
-        ensures fault { let fault = lost_header_fault self.old in
-            MatchResult result (λ _. fault ≡ None) (λ refused. fault ≡ Some refused) }
+        ensures fault { let fault = lost_header_fault self.old in MatchResult result (λ _. fault ≡ None) (λ refused. fault ≡ Some refused) }
     {
         if self.is_open {
             return Err(WorldFault::Misfit(Misfit::BodyIsOpen));
@@ -393,14 +389,12 @@ impl<B: Bounds> World<B> {
     /// Gives the open body the class `number`. A class that the body has already, by name or by inheritance, is passed over, as
     /// is the number 0.
     ///
-    /// Refuses it outside of a body, and where the number is no class's; then where a property or the list of classes would have
-    /// more than 32 values, then where there is no room. The lists are made before these last two are looked for, and memory may
-    /// run out first.
+    /// Refuses it outside of a body, and where the number is no class's; then where a property or the list of classes would have more than
+    /// 32 values, then where there is no room. The lists are made before these last two are looked for, and memory may run out first.
     pub fn join_class(&mut self, number: usize) -> Result<(), WorldFault>
         ensures ok { OnOk result (self.new ≡ with_class_of number self.old) }
         ensures err { OnErr result (self.new ≡ self.old) }
-        ensures fault { let fault = class_of_fault B.most number self.old in
-            MatchResult result (λ _. fault ≡ None) (IsRefused fault) }
+        ensures fault { let fault = class_of_fault B.most number self.old in MatchResult result (λ _. fault ≡ None) (IsRefused fault) }
         ensures memory { IfErr result (λ refused. refused ≡ Memory → (self.old.is_open ≡ true)
             × IsSome (class_at number self.old.objects) × (is_passed number self.old.body ≡ false)) }
     {
@@ -421,8 +415,7 @@ impl<B: Bounds> World<B> {
         Ok(())
     }
 
-    /// Ends the open body, whose object is there from now on. Refuses it outside of a body. Where no memory is left the body stays
-    /// open.
+    /// Ends the open body, whose object is there from now on. Refuses it outside of a body. Where no memory is left the body stays open.
     pub fn end_body(&mut self) -> Result<(), WorldFault>
         ensures ok { OnOk result (self.new ≡ with_end self.old) }
         ensures err { OnErr result (self.new ≡ self.old) }

@@ -22,19 +22,18 @@ limits = limits_of defaults
 
 -- the output where a routine with `locals` local variables is open
 abbrev begun : ℕ → Out
-begun locals =
-    record {
-      code = with_opened locals false (no_routines Scale.Four);
-      strings = no_strings Scale.Four;
-      tables = no_tables;
-      names = no_names false;
-      texts = no_texts;
-      seen = no_names false;
-      first = record { file = 0; line = 1 };
-      next = 0;
-      past = None;
-      kept = None;
-    }
+begun locals = record {
+  code = with_opened locals false (no_routines Scale.Four);
+  strings = no_strings Scale.Four;
+  tables = no_tables;
+  names = no_names false;
+  texts = no_texts;
+  seen = no_names false;
+  first = record { file = 0; line = 1 };
+  next = 0;
+  past = None;
+  kept = None;
+}
 
 -- the bytes of a cell, where `numbers` are those of names
 abbrev cell_bytes : List ℕ → Cell → List ℕ
@@ -105,13 +104,10 @@ abbrev call_with : Tree → Code
 call_with list = (meaning limits (Two Binary.Call f list)).alone
 
 pub argument_counts : bytes_with (0x1234 ∷ []) 0 (
-    (meaning limits (One Unary.Call f)).alone
-    ▸ call_with (number 1)
-    ▸ call_with (then (number 1) (then (number 2) (number 3)))
+    (meaning limits (One Unary.Call f)).alone ▸ call_with (number 1) ▸ call_with (then (number 1) (then (number 2) (number 3)))
     ▸ call_with (then (number 1) (then (number 2) (then (number 3) (number 4))))
     ▸ call_with (then (number 1) (then (number 2) (then (number 3) (then (number 4) (then (number 5) (then (number 6) (number 7)))))))
-    )
-    ≡ 0x00 ∷ 0x8F ∷ 0x12 ∷ 0x34 ∷ 0xDA ∷ 0x1F ∷ 0x12 ∷ 0x34 ∷ 0x01 ∷ 0xF9 ∷ 0x15 ∷ 0x12 ∷ 0x34 ∷ 0x01 ∷ 0x02 ∷ 0x03
+    ) ≡ 0x00 ∷ 0x8F ∷ 0x12 ∷ 0x34 ∷ 0xDA ∷ 0x1F ∷ 0x12 ∷ 0x34 ∷ 0x01 ∷ 0xF9 ∷ 0x15 ∷ 0x12 ∷ 0x34 ∷ 0x01 ∷ 0x02 ∷ 0x03
     ∷ 0xFA ∷ 0x15 ∷ 0x7F ∷ 0x12 ∷ 0x34 ∷ 0x01 ∷ 0x02 ∷ 0x03 ∷ 0x04 ∷ 0xFA ∷ 0x15 ∷ 0x55 ∷ 0x12 ∷ 0x34 ∷ 0x01 ∷ 0x02 ∷ 0x03 ∷ 0x04 ∷ 0x05 ∷
     0x06 ∷ 0x07 ∷ 0xB0 ∷ 0 ∷ 0 ∷ []
 unfolding laid instruction call_of calling

@@ -35,16 +35,14 @@ unfolding single_tests
 last_left limits t x b sense label there o = refl
 
 pub others_left : (limits : Limits) (t : Test) (x : Simple) (b c : Part) (others : List Part) (sense : Bool) (label there : Label) (o : Out)
-    →
-    single_tests limits t x (b ∷ c ∷ others) sense label there o ≡ single_tests limits t x (c ∷ others) sense label there
+    → single_tests limits t x (b ∷ c ∷ others) sense label there o ≡ single_tests limits t x (c ∷ others) sense label there
     (tested limits t (is x ∷ b ∷ []) true there o)
 unfolding single_tests
 others_left limits t x b c others sense label there o = refl
 
 -- One instruction makes all tests against simple members, where it takes as many.
 once_triple : (limits : Limits) (x : Simple) (b : Part) (others : List Part) (sense : Bool) (label there : Label) (o : Out) →
-    nat_lt 3 (length (b ∷ others)) ≡ false → evaluated (b ∷ others) o ≡ o
-    → triple_tests limits x (b ∷ others) sense label there o
+    nat_lt 3 (length (b ∷ others)) ≡ false → evaluated (b ∷ others) o ≡ o → triple_tests limits x (b ∷ others) sense label there o
     ≡ compared limits Test.Equal (take 4 (operands (is x ∷ b ∷ others))) sense label o
 once_triple limits x b [] sense label there o few simple =
     one_left limits x b sense label there o ∙ ap (compared limits Test.Equal (operands (is x ∷ b ∷ [])) sense label) simple
@@ -64,8 +62,7 @@ once_single limits t x b (c ∷ others) sense label there o few simple =
     let most : length others + 2 ≤ 1 = grind (arith, nat_tests, few) in absurd (omega arith)
 
 pub at_once : (limits : Limits) (t : Test) (x : Simple) (b : Part) (others : List Part) (sense : Bool) (label there : Label) (o : Out) →
-    nat_lt (group t) (length (b ∷ others)) ≡ false → evaluated (b ∷ others) o ≡ o
-    → tests limits t x (b ∷ others) sense label there o
+    nat_lt (group t) (length (b ∷ others)) ≡ false → evaluated (b ∷ others) o ≡ o → tests limits t x (b ∷ others) sense label there o
     ≡ compared limits t (take (most_compared t) (operands (is x ∷ b ∷ others))) sense label o
 unfolding tests
 at_once limits Test.Equal x b others sense label there o few simple = once_triple limits x b others sense label there o few simple

@@ -27,7 +27,6 @@ pub(crate) fn to(sense: bool, label: Label) -> Option<Branch>
     })
 }
 
-/// Lays the copy of a simple value to variable `d`, or to the stack.
 pub(crate) fn put<B: Bounds>(operand: Simple, d: u8, out: &mut Output<B>) -> Result<(), AllocError>
     ensures { OnOk result (out.new ≡ put B.most operand d out.old) }
 {
@@ -38,14 +37,12 @@ pub(crate) fn put<B: Bounds>(operand: Simple, d: u8, out: &mut Output<B>) -> Res
     }
 }
 
-/// Lays the copy of a variable's value to variable `d`, or to the stack.
 pub(crate) fn load<B: Bounds>(variable: u8, d: u8, out: &mut Output<B>) -> Result<(), AllocError>
     ensures { OnOk result (out.new ≡ load B.most variable d out.old) }
 {
     out.instruct_naming(Opcode::Load, variable, &[], Some(d), None)
 }
 
-/// Lays a branch to `label` where the truth of `operand` is `sense`.
 pub(crate) fn jump_zero<B: Bounds>(
     operand: Simple,
     sense: bool,
@@ -71,8 +68,7 @@ pub(crate) fn stepping<B: Bounds>(
     }
 }
 
-/// Returns the opcode of a call with `arguments` arguments, at most seven, whose result is stored where `store` is a
-/// variable.
+/// Returns the opcode of a call with `arguments` arguments, at most seven, whose result is stored where `store` is a variable.
 fn call_opcode(store: Option<u8>, arguments: usize) -> Opcode
     requires { arguments ≤ 7 }
     ensures value { result ≡ call_opcode store arguments }
@@ -117,7 +113,6 @@ pub(crate) fn calling<B: Bounds>(
     out.instruct(call_opcode(store, given.len()), &operands, store, None)
 }
 
-/// Lays a call of a routine of the veneer.
 #[tactic(auto, unfolding(crate::specs::Parts::calling_routine))]
 pub(crate) fn calling_routine<B: Bounds>(
     veneer: Veneer,
@@ -170,7 +165,6 @@ pub(crate) fn related_opcode(relative: Relative) -> Opcode
     }
 }
 
-/// Returns the routine of the veneer that stores a value in memory and leaves it.
 pub(crate) fn setter(memory: Memory) -> Veneer
     ensures { result ≡ setter memory }
 {
@@ -181,7 +175,6 @@ pub(crate) fn setter(memory: Memory) -> Veneer
     }
 }
 
-/// Returns the routine of the veneer that steps a value in memory.
 pub(crate) fn stepper(memory: Memory) -> Veneer
     ensures { result ≡ stepper memory }
 {
@@ -192,7 +185,6 @@ pub(crate) fn stepper(memory: Memory) -> Veneer
     }
 }
 
-/// Returns the routine of the veneer that answers a question about a property.
 pub(crate) fn reader(asked: PropertyPart) -> Veneer
     ensures { result ≡ reader asked }
 {
@@ -253,7 +245,6 @@ fn branching<B: Bounds>(
     out.instruct(opcode, operands, None, to(sense, label))
 }
 
-/// Lays a test by a routine of the veneer.
 fn asking<B: Bounds>(
     veneer: Veneer,
     operands: &[Simple],
@@ -267,7 +258,6 @@ fn asking<B: Bounds>(
     jump_zero(Simple::Variable(STACK), sense, label, out)
 }
 
-/// Lays a test of some operands, as a branch to `label` where its truth is `sense`.
 pub(crate) fn compared<B: Bounds>(
     test: Test,
     operands: &[Simple],

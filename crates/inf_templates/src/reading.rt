@@ -67,7 +67,6 @@ pub fn simple_of<B: Bounds>(nodes: &Nodes, place: usize) -> Option<Simple>
     }
 }
 
-/// Returns whether a test takes up to three alternatives at once.
 pub(crate) fn takes_three(test: Test) -> bool
     ensures { result ≡ takes_three test }
 {
@@ -81,7 +80,6 @@ pub(crate) fn group(test: Test) -> u8
     if takes_three(test) { 3 } else { 1 }
 }
 
-/// Returns the most operands that a test takes: a value and its alternatives.
 pub(crate) fn most_compared(test: Test) -> usize
     ensures value { result ≡ most_compared test }
     ensures enough { 2 ≤ result }

@@ -84,8 +84,7 @@ pub enum Worked {
     Indirect(usize, Option<u8>),
 }
 
-/// Tasks: in contracts their list, the next one first. They are empty between the calls that lay code, and keep their
-/// memory.
+/// Tasks: in contracts their list, the next one first. They are empty between the calls that lay code, and keep their memory.
 #[derive(Drop)]
 pub struct Tasks {
     tasks: Vec<Task>,

@@ -94,8 +94,7 @@ pub fn lay_call<B: Bounds>(
     calling(argument_of::<B>(nodes, routine), &operands, store, out)
 }
 
-/// Lays a call of a routine of the veneer, with its result in a variable if it is wanted. Of the arguments the first seven
-/// are given.
+/// Lays a call of a routine of the veneer, with its result in a variable if it is wanted. Of the arguments the first seven are given.
 #[tactic(auto, using(crate::proofs::Cuts::calling_routine_given))]
 pub fn lay_routine_call<B: Bounds>(
     tasks: &mut Tasks,

@@ -18,28 +18,25 @@ IsOver (Some best) n len = IsBetter best n len
 
 pick-new : (best : Option (ℕ × ℕ)) (n len : ℕ) → IsOver (pick best n len) n len
 pick-new None n len = record { longer = omega arith; lower = λ _. omega arith }
-pick-new (Some best) n len = go (ltb len best.1 || (eqb len best.1 && leb best.0 n)) refl
-  where
-    go : (t : Bool) → (ltb len best.1 || (eqb len best.1 && leb best.0 n)) ≡ t → IsOver (cond t (Some best) (Some (n, len))) n len
-    go true e = record { longer = grind (arith, nat_tests); lower = λ le. grind (arith, nat_tests) }
-    go false e = record { longer = omega arith; lower = λ _. omega arith }
+pick-new (Some best) n len = go (ltb len best.1 || (eqb len best.1 && leb best.0 n)) refl where
+  go : (t : Bool) → (ltb len best.1 || (eqb len best.1 && leb best.0 n)) ≡ t → IsOver (cond t (Some best) (Some (n, len))) n len
+  go true e = record { longer = grind (arith, nat_tests); lower = λ le. grind (arith, nat_tests) }
+  go false e = record { longer = omega arith; lower = λ _. omega arith }
 
 pick-old : (best : Option (ℕ × ℕ)) (n len k l : ℕ) → IsOver best k l → IsOver (pick best n len) k l
 pick-old None n len k l h = absurd h
-pick-old (Some best) n len k l h = go (ltb len best.1 || (eqb len best.1 && leb best.0 n)) refl h
-  where
-    go : (t : Bool) → (ltb len best.1 || (eqb len best.1 && leb best.0 n)) ≡ t → IsBetter best k l →
-        IsOver (cond t (Some best) (Some (n, len))) k l
-    go true e h = h
-    go false e h =
-        let longer : l ≤ best.1 = h.longer in
-        let lower : best.1 ≤ l → best.0 ≤ k = h.lower in
-        let le : best.1 ≤ len = grind (arith, nat_tests) in
-        let tie : best.1 ≡ len → n < best.0 = λ is. grind (arith, nat_tests) in
-        record {
-          longer = omega arith;
-          lower = λ (fits : len ≤ l). let at : best.1 ≡ len = omega arith in omega (arith, tie at, lower (omega arith));
-        }
+pick-old (Some best) n len k l h = go (ltb len best.1 || (eqb len best.1 && leb best.0 n)) refl h where
+  go : (t : Bool) → (ltb len best.1 || (eqb len best.1 && leb best.0 n)) ≡ t → IsBetter best k l →
+      IsOver (cond t (Some best) (Some (n, len))) k l
+  go true e h = h
+  go false e h =
+      let longer : l ≤ best.1 = h.longer in let lower : best.1 ≤ l → best.0 ≤ k = h.lower in
+      let le : best.1 ≤ len = grind (arith, nat_tests) in
+      let tie : best.1 ≡ len → n < best.0 = λ is. grind (arith, nat_tests) in
+      record {
+        longer = omega arith;
+        lower = λ (fits : len ≤ l). let at : best.1 ≡ len = omega arith in omega (arith, tie at, lower (omega arith));
+      }
 
 -- a text is no better than the best one, if the items begin with it
 abbrev pub Shows : List (List TextItem) → List TextItem → Option (ℕ × ℕ) → ℕ → Type 0
@@ -57,11 +54,10 @@ AreAmong texts items (Some found) = IsAmong texts items found
 pick-among : (texts : List (List TextItem)) (items : List TextItem) (best : Option (ℕ × ℕ)) (n len : ℕ) → AreAmong texts items best →
     IsAmong texts items (n, len) → AreAmong texts items (pick best n len)
 pick-among texts items None n len h new = new
-pick-among texts items (Some best) n len h new = go (ltb len best.1 || (eqb len best.1 && leb best.0 n))
-  where
-    go : (t : Bool) → AreAmong texts items (cond t (Some best) (Some (n, len)))
-    go true = h
-    go false = new
+pick-among texts items (Some best) n len h new = go (ltb len best.1 || (eqb len best.1 && leb best.0 n)) where
+  go : (t : Bool) → AreAmong texts items (cond t (Some best) (Some (n, len)))
+  go true = h
+  go false = new
 
 -- one text was tried
 tried-new : (texts : List (List TextItem)) (items : List TextItem) (best : Option (ℕ × ℕ)) (n : ℕ) →
@@ -73,20 +69,18 @@ tried-new texts items best n begins =
 
 tried-old : (items : List TextItem) (best : Option (ℕ × ℕ)) (n : ℕ) (a : List TextItem) (k l : ℕ) → IsOver best k l →
     IsOver (tried items best n a) k l
-tried-old items best n a k l h = go (eqb (common items a) (length a))
-  where
-    go : (t : Bool) → IsOver (cond t (pick best n (length a)) best) k l
-    go true = pick-old best n (length a) k l h
-    go false = h
+tried-old items best n a k l h = go (eqb (common items a) (length a)) where
+  go : (t : Bool) → IsOver (cond t (pick best n (length a)) best) k l
+  go true = pick-old best n (length a) k l h
+  go false = h
 
 tried-among : (texts : List (List TextItem)) (items : List TextItem) (best : Option (ℕ × ℕ)) (n : ℕ) → n < length texts →
     AreAmong texts items best → AreAmong texts items (tried items best n (text_at texts n))
-tried-among texts items best n lt h = go (eqb (common items (text_at texts n)) (length (text_at texts n))) refl
-  where
-    go : (t : Bool) → eqb (common items (text_at texts n)) (length (text_at texts n)) ≡ t →
-        AreAmong texts items (cond t (pick best n (length (text_at texts n))) best)
-    go true e = pick-among texts items best n (length (text_at texts n)) h (lt, begins_with_common items (text_at texts n) ∙ e, refl)
-    go false e = h
+tried-among texts items best n lt h = go (eqb (common items (text_at texts n)) (length (text_at texts n))) refl where
+  go : (t : Bool) → eqb (common items (text_at texts n)) (length (text_at texts n)) ≡ t →
+      AreAmong texts items (cond t (pick best n (length (text_at texts n))) best)
+  go true e = pick-among texts items best n (length (text_at texts n)) h (lt, begins_with_common items (text_at texts n) ∙ e, refl)
+  go false e = h
 
 best_of-old : (texts : List (List TextItem)) (items : List TextItem) (best : Option (ℕ × ℕ)) (links : List Link) (k l : ℕ) →
     IsOver best k l → IsOver (best_of texts items best links) k l
@@ -121,30 +115,26 @@ IsBelow (Some best) n = best.0 < n
 
 longer-new : (best : Option (ℕ × ℕ)) (n len : ℕ) → IsBelow best n → IsOver (longer best n len) n len
 longer-new None n len h = record { longer = omega arith; lower = λ _. omega arith }
-longer-new (Some best) n len h = go (ltb best.1 len) refl
-  where
-    go : (t : Bool) → ltb best.1 len ≡ t → IsOver (cond t (Some (n, len)) (Some best)) n len
-    go true e = record { longer = omega arith; lower = λ _. omega arith }
-    go false e = let le : len ≤ best.1 = grind (arith, nat_tests) in record { longer = le; lower = λ _. omega arith }
+longer-new (Some best) n len h = go (ltb best.1 len) refl where
+  go : (t : Bool) → ltb best.1 len ≡ t → IsOver (cond t (Some (n, len)) (Some best)) n len
+  go true e = record { longer = omega arith; lower = λ _. omega arith }
+  go false e = let le : len ≤ best.1 = grind (arith, nat_tests) in record { longer = le; lower = λ _. omega arith }
 
 longer-old : (best : Option (ℕ × ℕ)) (n len k l : ℕ) → IsOver best k l → IsOver (longer best n len) k l
 longer-old None n len k l h = absurd h
-longer-old (Some best) n len k l h = go (ltb best.1 len) refl h
-  where
-    go : (t : Bool) → ltb best.1 len ≡ t → IsBetter best k l → IsOver (cond t (Some (n, len)) (Some best)) k l
-    go true e h =
-        let lt : best.1 < len = grind (arith, nat_tests) in
-        let longer : l ≤ best.1 = h.longer in
-        record { longer = omega arith; lower = λ (fits : len ≤ l). absurd (omega arith) }
-    go false e h = h
+longer-old (Some best) n len k l h = go (ltb best.1 len) refl h where
+  go : (t : Bool) → ltb best.1 len ≡ t → IsBetter best k l → IsOver (cond t (Some (n, len)) (Some best)) k l
+  go true e h =
+      let lt : best.1 < len = grind (arith, nat_tests) in let longer : l ≤ best.1 = h.longer in
+      record { longer = omega arith; lower = λ (fits : len ≤ l). absurd (omega arith) }
+  go false e h = h
 
 longer-below : (best : Option (ℕ × ℕ)) (n len : ℕ) → IsBelow best n → IsBelow (longer best n len) (n + 1)
 longer-below None n len h = omega arith
-longer-below (Some best) n len h = go (ltb best.1 len)
-  where
-    go : (t : Bool) → IsBelow (cond t (Some (n, len)) (Some best)) (n + 1)
-    go true = omega arith
-    go false = omega arith
+longer-below (Some best) n len h = go (ltb best.1 len) where
+  go : (t : Bool) → IsBelow (cond t (Some (n, len)) (Some best)) (n + 1)
+  go true = omega arith
+  go false = omega arith
 
 IsBelow-more : (best : Option (ℕ × ℕ)) (n : ℕ) → IsBelow best n → IsBelow best (n + 1)
 IsBelow-more None n h = tt
@@ -152,11 +142,10 @@ IsBelow-more (Some best) n h = omega arith
 
 better-old : (items : List TextItem) (best : Option (ℕ × ℕ)) (n : ℕ) (a : List TextItem) (k l : ℕ) → IsOver best k l →
     IsOver (better best n a items) k l
-better-old items best n a k l h = go (begins_with items a)
-  where
-    go : (t : Bool) → IsOver (cond t (longer best n (length a)) best) k l
-    go true = longer-old best n (length a) k l h
-    go false = h
+better-old items best n a k l h = go (begins_with items a) where
+  go : (t : Bool) → IsOver (cond t (longer best n (length a)) best) k l
+  go true = longer-old best n (length a) k l h
+  go false = h
 
 better-new : (items : List TextItem) (best : Option (ℕ × ℕ)) (n : ℕ) (a : List TextItem) → IsBelow best n → begins_with items a ≡ true →
     IsOver (better best n a items) n (length a)
@@ -164,11 +153,10 @@ better-new items best n a h begins = rw begins (longer-new best n (length a) h)
 
 better-below : (items : List TextItem) (best : Option (ℕ × ℕ)) (n : ℕ) (a : List TextItem) → IsBelow best n →
     IsBelow (better best n a items) (n + 1)
-better-below items best n a h = go (begins_with items a)
-  where
-    go : (t : Bool) → IsBelow (cond t (longer best n (length a)) best) (n + 1)
-    go true = longer-below best n (length a) h
-    go false = IsBelow-more best n h
+better-below items best n a h = go (begins_with items a) where
+  go : (t : Bool) → IsBelow (cond t (longer best n (length a)) best) (n + 1)
+  go true = longer-below best n (length a) h
+  go false = IsBelow-more best n h
 
 longest_from-old : (items : List TextItem) (best : Option (ℕ × ℕ)) (n : ℕ) (declared : List (List TextItem)) (k l : ℕ) → IsOver best k l →
     IsOver (longest_from best n declared items) k l
@@ -190,30 +178,26 @@ longest_from-shows items best n (a ∷ declared) (suc i) k below lt is begins =
 longer-among : (texts : List (List TextItem)) (items : List TextItem) (best : Option (ℕ × ℕ)) (n len : ℕ) → AreAmong texts items best →
     IsAmong texts items (n, len) → AreAmong texts items (longer best n len)
 longer-among texts items None n len h new = new
-longer-among texts items (Some best) n len h new = go (ltb best.1 len)
-  where
-    go : (t : Bool) → AreAmong texts items (cond t (Some (n, len)) (Some best))
-    go true = new
-    go false = h
+longer-among texts items (Some best) n len h new = go (ltb best.1 len) where
+  go : (t : Bool) → AreAmong texts items (cond t (Some (n, len)) (Some best))
+  go true = new
+  go false = h
 
 better-among : (texts : List (List TextItem)) (items : List TextItem) (best : Option (ℕ × ℕ)) (n : ℕ) (a : List TextItem) →
     n < length texts → a ≡ text_at texts n → AreAmong texts items best → AreAmong texts items (better best n a items)
-better-among texts items best n a lt is h = go (begins_with items a) refl
-  where
-    go : (t : Bool) → begins_with items a ≡ t → AreAmong texts items (cond t (longer best n (length a)) best)
-    go true e = longer-among texts items best n (length a) h (lt, rw (← is) e, ap length is)
-    go false e = h
+better-among texts items best n a lt is h = go (begins_with items a) refl where
+  go : (t : Bool) → begins_with items a ≡ t → AreAmong texts items (cond t (longer best n (length a)) best)
+  go true e = longer-among texts items best n (length a) h (lt, rw (← is) e, ap length is)
+  go false e = h
 
 longest_from-among : (texts : List (List TextItem)) (items : List TextItem) (best : Option (ℕ × ℕ)) (n : ℕ)
     (declared : List (List TextItem)) → n + length declared ≡ length texts → ((i : ℕ) → get_or declared i [] ≡ text_at texts (n + i)) →
     AreAmong texts items best → AreAmong texts items (longest_from best n declared items)
 longest_from-among texts items best n [] len at h = h
 longest_from-among texts items best n (a ∷ declared) len at h =
-    let here : n + 0 ≡ n = omega arith in
-    let is : a ≡ text_at texts n = rw here at (at 0) in
+    let here : n + 0 ≡ n = omega arith in let is : a ≡ text_at texts n = rw here at (at 0) in
     longest_from-among texts items (better best n a items) (n + 1) declared (omega arith)
-    (λ i. let next : n + suc i ≡ n + 1 + i = omega arith in rw next at (at (suc i)))
-    (better-among texts items best n a (omega arith) is h)
+    (λ i. let next : n + suc i ≡ n + 1 + i = omega arith in rw next at (at (suc i))) (better-among texts items best n a (omega arith) is h)
 
 -- each text is no better than the longest, and the longest is one of them
 pub longest-shows : (texts : List (List TextItem)) (items : List TextItem) (n : ℕ) → n < length texts →

@@ -94,12 +94,11 @@ IsRight-longer : (seen : List (List TextItem)) (items a : List TextItem) (best :
     IsRight seen items best → IsRight (seen ++ a ∷ []) items (longer best (length seen) (length a))
 unfolding IsRight
 IsRight-longer seen items a None begins h = IsBest-new seen items a begins (NoneLonger-none seen items (length a) h)
-IsRight-longer seen items a (Some best) begins h = go (ltb best.1 (length a)) refl
-  where
-    go : (t : Bool) → ltb best.1 (length a) ≡ t → IsRight (seen ++ a ∷ []) items (cond t (Some (length seen, length a)) (Some best))
-    go true e = let lt : best.1 < length a = grind (arith, nat_tests) in IsBest-new seen items a begins
-        (NoneLonger-more seen items best.1 (length a) (omega arith) h.longest)
-    go false e = let le : length a ≤ best.1 = grind (arith, nat_tests) in IsBest-kept seen items a best.0 best.1 h (λ _. le)
+IsRight-longer seen items a (Some best) begins h = go (ltb best.1 (length a)) refl where
+  go : (t : Bool) → ltb best.1 (length a) ≡ t → IsRight (seen ++ a ∷ []) items (cond t (Some (length seen, length a)) (Some best))
+  go true e = let lt : best.1 < length a = grind (arith, nat_tests) in IsBest-new seen items a begins
+      (NoneLonger-more seen items best.1 (length a) (omega arith) h.longest)
+  go false e = let le : length a ≤ best.1 = grind (arith, nat_tests) in IsBest-kept seen items a best.0 best.1 h (λ _. le)
 
 IsRight-other : (seen : List (List TextItem)) (items a : List TextItem) (best : Option (ℕ × ℕ)) → begins_with items a ≡ false →
     IsRight seen items best → IsRight (seen ++ a ∷ []) items best
@@ -110,11 +109,10 @@ IsRight-other seen items a (Some best) not h =
 
 IsRight-better : (seen : List (List TextItem)) (items a : List TextItem) (best : Option (ℕ × ℕ)) → IsRight seen items best →
     IsRight (seen ++ a ∷ []) items (better best (length seen) a items)
-IsRight-better seen items a best h = go (begins_with items a) refl
-  where
-    go : (t : Bool) → begins_with items a ≡ t → IsRight (seen ++ a ∷ []) items (cond t (longer best (length seen) (length a)) best)
-    go true e = IsRight-longer seen items a best e h
-    go false e = IsRight-other seen items a best e h
+IsRight-better seen items a best h = go (begins_with items a) refl where
+  go : (t : Bool) → begins_with items a ≡ t → IsRight (seen ++ a ∷ []) items (cond t (longer best (length seen) (length a)) best)
+  go true e = IsRight-longer seen items a best e h
+  go false e = IsRight-other seen items a best e h
 
 IsRight-all : (seen declared : List (List TextItem)) (n : ℕ) (items : List TextItem) (best : Option (ℕ × ℕ)) → length seen ≡ n →
     IsRight seen items best → IsRight (seen ++ declared) items (longest_from best n declared items)
@@ -177,8 +175,7 @@ unfolding front_part IsRight
 Cuts-front declared x items None parts texts h more = (items, (refl, h, more))
 Cuts-front declared x items (Some found) parts texts h more =
     let room : 2 ≤ length h.text = (AreLongTexts-at declared found.0 h.text texts h.declared_as).0 in
-    let behind : length h.text ≡ suc (found.1 - 1) = omega (arith, h.len_is) in
-    let rest = drop (found.1 - 1) items in
+    let behind : length h.text ≡ suc (found.1 - 1) = omega (arith, h.len_is) in let rest = drop (found.1 - 1) items in
     let split : x ∷ items ≡ h.text ++ rest =
     begins_with-true (x ∷ items) h.text h.begins ∙ ap (λ (n : ℕ). h.text ++ drop n (x ∷ items)) behind in
     let most : NoneLonger declared (x ∷ items) (length h.text) = rw h.len_is h.longest in

@@ -21,8 +21,7 @@ AreZs-set (x ∷ zs) (suc i) z h small = (h.0, AreZs-set zs i z h.1 small)
 pub filled-more : (zs : List ℕ) (i k z : ℕ) → length zs ≡ 9 → i + suc k ≡ 9 → zs ≡ take i zs ++ replicate (suc k) 5 →
     set zs i z ≡ take (i + 1) (set zs i z) ++ replicate k 5
 filled-more zs i k z len room filled =
-    let front = take i zs in
-    let at : length front ≡ i = omega (arith, length-take i zs) in
+    let front = take i zs in let at : length front ≡ i = omega (arith, length-take i zs) in
     let lt : i < length zs = omega arith in
     let seam : set (front ++ 5 ∷ replicate k 5) i z ≡ front ++ z ∷ replicate k 5 =
     ap (λ (j : ℕ). set (front ++ 5 ∷ replicate k 5) j z) (sym at) ∙ set-append_seam front 5 (replicate k 5) z in

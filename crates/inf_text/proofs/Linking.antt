@@ -12,31 +12,28 @@ use Rattle.inf_text.proofs.Cutting.{same_item-true}
 pub common-fits_left : (xs ys : List TextItem) → common xs ys ≤ length xs
 common-fits_left xs [] = omega arith
 common-fits_left [] (y ∷ ys) = omega arith
-common-fits_left (x ∷ xs) (y ∷ ys) = go (same_item x y) (common-fits_left xs ys)
-  where
-    go : (t : Bool) → common xs ys ≤ length xs → cond t (1 + common xs ys) 0 ≤ length (x ∷ xs)
-    go true h = omega arith
-    go false h = omega arith
+common-fits_left (x ∷ xs) (y ∷ ys) = go (same_item x y) (common-fits_left xs ys) where
+  go : (t : Bool) → common xs ys ≤ length xs → cond t (1 + common xs ys) 0 ≤ length (x ∷ xs)
+  go true h = omega arith
+  go false h = omega arith
 
 pub common-fits_right : (xs ys : List TextItem) → common xs ys ≤ length ys
 common-fits_right xs [] = omega arith
 common-fits_right [] (y ∷ ys) = omega arith
-common-fits_right (x ∷ xs) (y ∷ ys) = go (same_item x y) (common-fits_right xs ys)
-  where
-    go : (t : Bool) → common xs ys ≤ length ys → cond t (1 + common xs ys) 0 ≤ length (y ∷ ys)
-    go true h = omega arith
-    go false h = omega arith
+common-fits_right (x ∷ xs) (y ∷ ys) = go (same_item x y) (common-fits_right xs ys) where
+  go : (t : Bool) → common xs ys ≤ length ys → cond t (1 + common xs ys) 0 ≤ length (y ∷ ys)
+  go true h = omega arith
+  go false h = omega arith
 
 -- items begin with a text that they have whole in common with it
 pub begins_with_common : (items a : List TextItem) → begins_with items a ≡ eqb (common items a) (length a)
 begins_with_common items [] = refl
 begins_with_common [] (y ∷ ys) = grind (arith, nat_tests)
-begins_with_common (x ∷ xs) (y ∷ ys) = go (same_item x y) (begins_with_common xs ys)
-  where
-    go : (t : Bool) → begins_with xs ys ≡ eqb (common xs ys) (length ys) →
-        (t && begins_with xs ys) ≡ eqb (cond t (1 + common xs ys) 0) (length (y ∷ ys))
-    go true h = h ∙ grind (arith, nat_tests)
-    go false h = grind (arith, nat_tests)
+begins_with_common (x ∷ xs) (y ∷ ys) = go (same_item x y) (begins_with_common xs ys) where
+  go : (t : Bool) → begins_with xs ys ≡ eqb (common xs ys) (length ys) →
+      (t && begins_with xs ys) ≡ eqb (cond t (1 + common xs ys) 0) (length (y ∷ ys))
+  go true h = h ∙ grind (arith, nat_tests)
+  go false h = grind (arith, nat_tests)
 
 same-before : (x y z : TextItem) (t : Bool) → same_item x y ≡ true → same_item y z ≡ t → same_item x z ≡ t
 same-before x y z t e f = rw (same_item-true x y e) f
@@ -49,53 +46,49 @@ pub common_less : (items p a : List TextItem) → common items p < common p a �
 common_less items p [] lt = absurd (omega arith)
 common_less items [] (z ∷ a) lt = absurd (omega arith)
 common_less [] (y ∷ p) (z ∷ a) lt = refl
-common_less (x ∷ items) (y ∷ p) (z ∷ a) lt = go (same_item x y) refl (same_item y z) refl (common_less items p a) lt
-  where
-    go : (u : Bool) → same_item x y ≡ u → (v : Bool) → same_item y z ≡ v → (common items p < common p a → common items a ≡ common items p) →
-        cond u (1 + common items p) 0 < cond v (1 + common p a) 0 →
-        cond (same_item x z) (1 + common items a) 0 ≡ cond u (1 + common items p) 0
-    go u e false f h lt = absurd (omega arith)
-    go true e true f h lt = rw (same-before x y z true e f, h (omega arith)) refl
-    go false e true f h lt = rw (same-behind x y z false e f) refl
+common_less (x ∷ items) (y ∷ p) (z ∷ a) lt = go (same_item x y) refl (same_item y z) refl (common_less items p a) lt where
+  go : (u : Bool) → same_item x y ≡ u → (v : Bool) → same_item y z ≡ v → (common items p < common p a → common items a ≡ common items p) →
+      cond u (1 + common items p) 0 < cond v (1 + common p a) 0 →
+      cond (same_item x z) (1 + common items a) 0 ≡ cond u (1 + common items p) 0
+  go u e false f h lt = absurd (omega arith)
+  go true e true f h lt = rw (same-before x y z true e f, h (omega arith)) refl
+  go false e true f h lt = rw (same-behind x y z false e f) refl
 
 -- items that leave a text behind the place where its neighbour does leave the neighbour where the neighbour leaves the text
 pub common_more : (items p a : List TextItem) → common p a < common items p → common items a ≡ common p a
 common_more items p [] lt = refl
 common_more items [] (z ∷ a) lt = absurd (omega arith)
 common_more [] (y ∷ p) (z ∷ a) lt = absurd (omega arith)
-common_more (x ∷ items) (y ∷ p) (z ∷ a) lt = go (same_item x y) refl (same_item y z) refl (common_more items p a) lt
-  where
-    go : (u : Bool) → same_item x y ≡ u → (v : Bool) → same_item y z ≡ v → (common p a < common items p → common items a ≡ common p a) →
-        cond v (1 + common p a) 0 < cond u (1 + common items p) 0 → cond (same_item x z) (1 + common items a) 0 ≡ cond v (1 + common p a) 0
-    go false e v f h lt = absurd (omega arith)
-    go true e true f h lt = rw (same-before x y z true e f, h (omega arith)) refl
-    go true e false f h lt = rw (same-before x y z false e f) refl
+common_more (x ∷ items) (y ∷ p) (z ∷ a) lt = go (same_item x y) refl (same_item y z) refl (common_more items p a) lt where
+  go : (u : Bool) → same_item x y ≡ u → (v : Bool) → same_item y z ≡ v → (common p a < common items p → common items a ≡ common p a) →
+      cond v (1 + common p a) 0 < cond u (1 + common items p) 0 → cond (same_item x z) (1 + common items a) 0 ≡ cond v (1 + common p a) 0
+  go false e v f h lt = absurd (omega arith)
+  go true e true f h lt = rw (same-before x y z true e f, h (omega arith)) refl
+  go true e false f h lt = rw (same-before x y z false e f) refl
 
 -- items that leave a text where its neighbour does may have more in common with the neighbour
 pub common_same : (items p a : List TextItem) → common p a ≡ common items p → common items p ≤ common items a
 common_same items p [] is = omega arith
 common_same items [] (z ∷ a) is = omega arith
 common_same [] (y ∷ p) (z ∷ a) is = omega arith
-common_same (x ∷ items) (y ∷ p) (z ∷ a) is = go (same_item x y) refl (same_item y z) refl (common_same items p a) is
-  where
-    go : (u : Bool) → same_item x y ≡ u → (v : Bool) → same_item y z ≡ v → (common p a ≡ common items p → common items p ≤ common items a) →
-        cond v (1 + common p a) 0 ≡ cond u (1 + common items p) 0 →
-        cond u (1 + common items p) 0 ≤ cond (same_item x z) (1 + common items a) 0
-    go false e v f h is = omega arith
-    go true e true f h is = rw (same-before x y z true e f) (omega (arith, h (omega arith)))
-    go true e false f h is = absurd (omega arith)
+common_same (x ∷ items) (y ∷ p) (z ∷ a) is = go (same_item x y) refl (same_item y z) refl (common_same items p a) is where
+  go : (u : Bool) → same_item x y ≡ u → (v : Bool) → same_item y z ≡ v → (common p a ≡ common items p → common items p ≤ common items a) →
+      cond v (1 + common p a) 0 ≡ cond u (1 + common items p) 0 →
+      cond u (1 + common items p) 0 ≤ cond (same_item x z) (1 + common items a) 0
+  go false e v f h is = omega arith
+  go true e true f h is = rw (same-before x y z true e f) (omega (arith, h (omega arith)))
+  go true e false f h is = absurd (omega arith)
 
 -- the items in common behind the first `k`, and those `k`, are all that are in common
 pub common-drop : (k : ℕ) (xs ys : List TextItem) → k ≤ common xs ys → k + common (drop k xs) (drop k ys) ≡ common xs ys
 common-drop zero xs ys le = omega arith
 common-drop (suc k) xs [] le = absurd (omega arith)
 common-drop (suc k) [] (y ∷ ys) le = absurd (omega arith)
-common-drop (suc k) (x ∷ xs) (y ∷ ys) le = go (same_item x y) (common-drop k xs ys) le
-  where
-    go : (t : Bool) → (k ≤ common xs ys → k + common (drop k xs) (drop k ys) ≡ common xs ys) → suc k ≤ cond t (1 + common xs ys) 0 →
-        suc k + common (drop k xs) (drop k ys) ≡ cond t (1 + common xs ys) 0
-    go true h le = omega (arith, h (omega arith))
-    go false h le = absurd (omega arith)
+common-drop (suc k) (x ∷ xs) (y ∷ ys) le = go (same_item x y) (common-drop k xs ys) le where
+  go : (t : Bool) → (k ≤ common xs ys → k + common (drop k xs) (drop k ys) ≡ common xs ys) → suc k ≤ cond t (1 + common xs ys) 0 →
+      suc k + common (drop k xs) (drop k ys) ≡ cond t (1 + common xs ys) 0
+  go true h le = omega (arith, h (omega arith))
+  go false h le = absurd (omega arith)
 
 -- the state of the search: behind the text `before`, which has its first `matched` items in common with the items
 pub record Searches (texts : List (List TextItem)) (items : List TextItem) (matched : ℕ) (best : Option (ℕ × ℕ)) (links : List Link)
@@ -149,11 +142,10 @@ shorter texts items matched l less h =
 apart : (xs ys : List TextItem) → first_code ys ≢ first_code xs → common xs ys ≡ 0
 apart xs [] other = refl
 apart [] (y ∷ ys) other = refl
-apart (x ∷ xs) (y ∷ ys) other = go (same_item x y) refl
-  where
-    go : (t : Bool) → same_item x y ≡ t → cond t (1 + common xs ys) 0 ≡ 0
-    go true e = absurd (other (ap code_of (sym (same_item-true x y e))))
-    go false e = refl
+apart (x ∷ xs) (y ∷ ys) other = go (same_item x y) refl where
+  go : (t : Bool) → same_item x y ≡ t → cond t (1 + common xs ys) 0 ≡ 0
+  go true e = absurd (other (ap code_of (sym (same_item-true x y e))))
+  go false e = refl
 
 not_tried : (items a : List TextItem) (best : Option (ℕ × ℕ)) (n : ℕ) → common items a < length a → best ≡ tried items best n a
 not_tried items a best n short =
@@ -165,8 +157,7 @@ pub stays : (texts : List (List TextItem)) (items : List TextItem) (matched : �
     l.len ≢ matched → l.next ≢ first_code (drop matched items) → IsNext texts items matched l →
     (matched ≡ common items (text_at texts l.number)) × (best ≡ tried items best l.number (text_at texts l.number))
 stays texts items matched l best same longer other h =
-    let a = text_at texts l.number in
-    let next : l.next ≡ first_code (drop matched a) = rw (← same) h.link.next in
+    let a = text_at texts l.number in let next : l.next ≡ first_code (drop matched a) = rw (← same) h.link.next in
     let none : common (drop matched items) (drop matched a) ≡ 0 = apart (drop matched items) (drop matched a) (λ e. other (next ∙ e)) in
     let whole : matched + common (drop matched items) (drop matched a) ≡ common items a = goes_on texts items matched l a refl same h in
     let at : matched ≡ common items a = omega arith in
@@ -249,19 +240,17 @@ common-none [] = refl
 common-none (y ∷ ys) = refl
 
 pub common-end : (xs ys : List TextItem) (k : ℕ) → min (length xs) (length ys) ≤ k → common (drop k xs) (drop k ys) ≡ 0
-common-end xs ys k le = go (cases_lt k (length xs))
-  where
-    go : (k < length xs) ⊎ (length xs ≤ k) → common (drop k xs) (drop k ys) ≡ 0
-    go (inl lt) = rw (drop_all k ys (omega arith)) refl
-    go (inr ge) = rw (drop_all k xs ge) (common-none (drop k ys))
+common-end xs ys k le = go (cases_lt k (length xs)) where
+  go : (k < length xs) ⊎ (length xs ≤ k) → common (drop k xs) (drop k ys) ≡ 0
+  go (inl lt) = rw (drop_all k ys (omega arith)) refl
+  go (inr ge) = rw (drop_all k xs ge) (common-none (drop k ys))
 
 -- a text may go on only where it leaves the one before it at the place where the items do
 pub going_on : (l : Link) (matched code : ℕ) → (eqb l.shared matched && (eqb l.len matched || eqb l.next code)) ≡ true → l.shared ≡ matched
-going_on l matched code h = let e : eqb l.shared matched ≡ true = left (eqb l.shared matched) _ h in grind (arith, nat_tests)
-  where
-    left : (a b : Bool) → (a && b) ≡ true → a ≡ true
-    left true b h = refl
-    left false b h = cc
+going_on l matched code h = let e : eqb l.shared matched ≡ true = left (eqb l.shared matched) _ h in grind (arith, nat_tests) where
+  left : (a b : Bool) → (a && b) ≡ true → a ≡ true
+  left true b h = refl
+  left false b h = cc
 
 pub not_going_on : (texts : List (List TextItem)) (items : List TextItem) (matched code : ℕ) (l : Link) (best : Option (ℕ × ℕ)) →
     code ≡ first_code (drop matched items) → (eqb l.shared matched && (eqb l.len matched || eqb l.next code)) ≡ false → matched ≤ l.shared →

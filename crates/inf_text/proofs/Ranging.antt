@@ -27,12 +27,11 @@ pub record AreRangesTo (texts : List (List TextItem)) (order : List ℕ) (place 
 
 -- a table of zeros
 zero_at : (c : ℕ) → get_or {A = ℕ} (replicate 256 0) c 0 ≡ 0
-zero_at c = go (cases_lt c 256)
-  where
-    go : (c < 256) ⊎ (256 ≤ c) → get_or {A = ℕ} (replicate 256 0) c 0 ≡ 0
-    go (inl lt) = get_or-replicate {A = ℕ} 256 c 0 0 lt
-    go (inr ge) = let len : length {A = ℕ} (replicate 256 0) ≡ 256 = length-replicate {A = ℕ} 256 0 in get_or_past {X = ℕ} (replicate 256 0)
-        c 0 (omega arith)
+zero_at c = go (cases_lt c 256) where
+  go : (c < 256) ⊎ (256 ≤ c) → get_or {A = ℕ} (replicate 256 0) c 0 ≡ 0
+  go (inl lt) = get_or-replicate {A = ℕ} 256 c 0 0 lt
+  go (inr ge) = let len : length {A = ℕ} (replicate 256 0) ≡ 256 = length-replicate {A = ℕ} 256 0 in get_or_past {X = ℕ} (replicate 256 0)
+      c 0 (omega arith)
 
 -- the ranges of no texts
 pub AreRangesTo-none : (texts : List (List TextItem)) (order : List ℕ) (ranges : Ranges) →
@@ -49,12 +48,11 @@ AreRangesTo-none texts order ranges is = rw is (record {
 -- a write changes one place
 get_or-written : (xs : List ℕ) (i v j : ℕ) → i < length xs →
     ((j ≡ i) × (get_or (set xs i v) j 0 ≡ v)) ⊎ ((j ≢ i) × (get_or (set xs i v) j 0 ≡ get_or xs j 0))
-get_or-written xs i v j lt = go (eqb_tells j i)
-  where
-    go : ((eqb j i ≡ true) × (j ≡ i)) ⊎ ((eqb j i ≡ false) × (j ≢ i)) →
-        ((j ≡ i) × (get_or (set xs i v) j 0 ≡ v)) ⊎ ((j ≢ i) × (get_or (set xs i v) j 0 ≡ get_or xs j 0))
-    go (inl (e, same)) = inl (same, rw same (get_or-set_same xs i v 0 lt))
-    go (inr (e, other)) = inr (other, get_or-set_other xs i j v 0 other)
+get_or-written xs i v j lt = go (eqb_tells j i) where
+  go : ((eqb j i ≡ true) × (j ≡ i)) ⊎ ((eqb j i ≡ false) × (j ≢ i)) →
+      ((j ≡ i) × (get_or (set xs i v) j 0 ≡ v)) ⊎ ((j ≢ i) × (get_or (set xs i v) j 0 ≡ get_or xs j 0))
+  go (inl (e, same)) = inl (same, rw same (get_or-set_same xs i v 0 lt))
+  go (inr (e, other)) = inr (other, get_or-set_other xs i j v 0 other)
 
 -- one more place
 pub AreRangesTo-more : (texts : List (List TextItem)) (order : List ℕ) (place code : ℕ) (ranges : Ranges) (starts ends : List ℕ) → code ≡
@@ -95,8 +93,7 @@ AreRangesTo-more texts order place code ranges starts ends is small ends_are sta
     begins (inl (none, written)) j (inl (same, now)) (inr ge) le = rw (written, now) ge
     begins (inl (none, written)) j (inr (other, before)) (inl lt) le = rw (written, before) (h.starts j lt)
     begins (inl (none, written)) j (inr (other, before)) (inr ge) le =
-        let at : j ≡ place = omega arith in
-        absurd (other (rw at (sym is)))
+        let at : j ≡ place = omega arith in absurd (other (rw at (sym is)))
 
     closes : (j : ℕ) → ((code_at texts order j ≡ code) × (get_or (set ranges.ends code (place + 1)) (code_at texts order j) 0 ≡ place + 1))
         ⊎ ((code_at texts order j ≢ code) × (get_or (set ranges.ends code (place + 1)) (code_at texts order j) 0 ≡ get_or ranges.ends
@@ -105,8 +102,7 @@ AreRangesTo-more texts order place code ranges starts ends is small ends_are sta
     closes j (inl (same, now)) w lt = rw now lt
     closes j (inr (other, before)) (inl less) lt = rw before (h.ends j less)
     closes j (inr (other, before)) (inr ge) lt =
-        let at : j ≡ place = omega arith in
-        absurd (other (rw at (sym is)))
+        let at : j ≡ place = omega arith in absurd (other (rw at (sym is)))
 
     in_order : ((get_or ranges.ends code 0 ≡ 0) × (starts ≡ set ranges.starts code place)) ⊎
         ((get_or ranges.ends code 0 ≢ 0) × (starts ≡ ranges.starts)) → (c : ℕ) →
@@ -139,39 +135,37 @@ IsOrder-insert count place order le h = record {
   below = λ j lt. below j lt (cases_lt j place) (cases_lt place j);
   len = length-insert order place count le ∙ ap (λ (n : ℕ). n + 1) h.len;
   all = λ k lt. found k (cases_lt k count) lt;
-}
-  where
-    below : (j : ℕ) → j < length (insert order place count) → (j < place) ⊎ (place ≤ j) → (place < j) ⊎ (j ≤ place) →
-        get_or (insert order place count) j 0 < count + 1
-    below j lt (inl less) w = rw (get_or-insert_below order place count 0 j less le) (omega (arith, h.below j (omega arith)))
-    below j lt (inr ge) (inr most) =
-        let at : j ≡ place = omega arith in
-        rw (at, get_or-insert_at order place count 0 le) (omega arith)
-    below j lt (inr ge) (inl more) =
-        let len : length (insert order place count) ≡ length order + 1 = length-insert order place count le in
-        let at : j ≡ j - 1 + 1 = omega arith in
-        let moved : get_or (insert order place count) (j - 1 + 1) 0 ≡ get_or order (j - 1) 0 =
-        get_or-insert_above order place count 0 (j - 1) (omega arith) le in
-        let small : get_or order (j - 1) 0 < count = h.below (j - 1) (omega arith) in
-        let small' : get_or (insert order place count) (j - 1 + 1) 0 < count + 1 = rw moved (omega arith) in
-        rw (← at) at small'
+} where
+  below : (j : ℕ) → j < length (insert order place count) → (j < place) ⊎ (place ≤ j) → (place < j) ⊎ (j ≤ place) →
+      get_or (insert order place count) j 0 < count + 1
+  below j lt (inl less) w = rw (get_or-insert_below order place count 0 j less le) (omega (arith, h.below j (omega arith)))
+  below j lt (inr ge) (inr most) =
+      let at : j ≡ place = omega arith in rw (at, get_or-insert_at order place count 0 le) (omega arith)
+  below j lt (inr ge) (inl more) =
+      let len : length (insert order place count) ≡ length order + 1 = length-insert order place count le in
+      let at : j ≡ j - 1 + 1 = omega arith in
+      let moved : get_or (insert order place count) (j - 1 + 1) 0 ≡ get_or order (j - 1) 0 =
+      get_or-insert_above order place count 0 (j - 1) (omega arith) le in
+      let small : get_or order (j - 1) 0 < count = h.below (j - 1) (omega arith) in
+      let small' : get_or (insert order place count) (j - 1 + 1) 0 < count + 1 = rw moved (omega arith) in
+      rw (← at) at small'
 
-    moved : (k j : ℕ) → j < length order → get_or order j 0 ≡ k → (j < place) ⊎ (place ≤ j) →
-        (i : ℕ) × ((i < length (insert order place count)) × (get_or (insert order place count) i 0 ≡ k))
-    moved k j lt is (inl less) =
-        let len : length (insert order place count) ≡ length order + 1 = length-insert order place count le in
-        (j, (omega arith, get_or-insert_below order place count 0 j less le ∙ is))
-    moved k j lt is (inr ge) =
-        let len : length (insert order place count) ≡ length order + 1 = length-insert order place count le in
-        (j + 1, (omega arith, get_or-insert_above order place count 0 j ge le ∙ is))
+  moved : (k j : ℕ) → j < length order → get_or order j 0 ≡ k → (j < place) ⊎ (place ≤ j) →
+      (i : ℕ) × ((i < length (insert order place count)) × (get_or (insert order place count) i 0 ≡ k))
+  moved k j lt is (inl less) =
+      let len : length (insert order place count) ≡ length order + 1 = length-insert order place count le in
+      (j, (omega arith, get_or-insert_below order place count 0 j less le ∙ is))
+  moved k j lt is (inr ge) =
+      let len : length (insert order place count) ≡ length order + 1 = length-insert order place count le in
+      (j + 1, (omega arith, get_or-insert_above order place count 0 j ge le ∙ is))
 
-    found : (k : ℕ) → (k < count) ⊎ (count ≤ k) → k < count + 1 →
-        (i : ℕ) × ((i < length (insert order place count)) × (get_or (insert order place count) i 0 ≡ k))
-    found k (inl less) lt = let at = h.all k less in moved k at.0 at.1.0 at.1.1 (cases_lt at.0 place)
-    found k (inr ge) lt =
-        let at : count ≡ k = omega arith in
-        let len : length (insert order place count) ≡ length order + 1 = length-insert order place count le in
-        (place, (omega arith, get_or-insert_at order place count 0 le ∙ at))
+  found : (k : ℕ) → (k < count) ⊎ (count ≤ k) → k < count + 1 →
+      (i : ℕ) × ((i < length (insert order place count)) × (get_or (insert order place count) i 0 ≡ k))
+  found k (inl less) lt = let at = h.all k less in moved k at.0 at.1.0 at.1.1 (cases_lt at.0 place)
+  found k (inr ge) lt =
+      let at : count ≡ k = omega arith in
+      let len : length (insert order place count) ≡ length order + 1 = length-insert order place count le in
+      (place, (omega arith, get_or-insert_at order place count 0 le ∙ at))
 
 -- the last number is put among the sorted ones, and the links of these are put into the order of the search
 pub IsOrder-more : (texts : List (List TextItem)) (place : ℕ) (old sorted numbers order : List ℕ) (links now : List Link) →
@@ -179,8 +173,7 @@ pub IsOrder-more : (texts : List (List TextItem)) (place : ℕ) (old sorted numb
     numbers ≡ sorted → links ≡ linked_from texts [] numbers → now ≡ links → IsOrder (length now) order →
     IsOrder (length texts) sorted × IsOrder (length texts) order
 IsOrder-more texts place old sorted numbers order links now some le h put same linked seen is =
-    let count = length texts - 1 in
-    let more : count + 1 ≡ length texts = omega arith in
+    let count = length texts - 1 in let more : count + 1 ≡ length texts = omega arith in
     let all : IsOrder (length texts) sorted = rw put (rw more at (IsOrder-insert count place old le h)) in
     let len : length now ≡ length texts = ap length (seen ∙ linked) ∙ length-linked texts [] numbers ∙ ap length same ∙ all.len in
     (all, rw len at is)
@@ -195,11 +188,10 @@ long_at (a ∷ texts) (suc n) h lt = long_at texts n h.1 (omega arith)
 same_code : (items a : List TextItem) → 2 ≤ length a → begins_with items a ≡ true → first_code a ≡ first_code items
 same_code items [] le h = absurd (omega arith)
 same_code [] (y ∷ a) le h = absurd (let none : false ≡ true = h in cc)
-same_code (x ∷ items) (y ∷ a) le h = ap code_of (sym (same_item-true x y (left (same_item x y) (begins_with items a) h)))
-  where
-    left : (s t : Bool) → (s && t) ≡ true → s ≡ true
-    left true t h = refl
-    left false t h = cc
+same_code (x ∷ items) (y ∷ a) le h = ap code_of (sym (same_item-true x y (left (same_item x y) (begins_with items a) h))) where
+  left : (s t : Bool) → (s && t) ≡ true → s ≡ true
+  left true t h = refl
+  left false t h = cc
 
 -- the link at a place of a part is that at the place behind its start
 part_at : (links : List Link) (start end i : ℕ) (d : Link) → i < end - start →
@@ -227,17 +219,13 @@ part-shows : (texts : List (List TextItem)) (items : List TextItem) (order : Lis
     start ≡ get_or ranges.starts (first_code items) 0 → end ≡ get_or ranges.ends (first_code items) 0 → n < length texts →
     Shows texts items (best_of texts items None (part_of texts order start end)) n
 part-shows texts items order ranges start end n known ordered h start_is end_is lt begins =
-    let links = linked_from texts [] order in
-    let found = ordered.all n lt in
-    let j = found.0 in
-    let d : Link = record { number = 0; next = 0; shared = 0; len = 0 } in
-    let is : get_or order j 0 ≡ n = found.1.1 in
+    let links = linked_from texts [] order in let found = ordered.all n lt in let j = found.0 in
+    let d : Link = record { number = 0; next = 0; shared = 0; len = 0 } in let is : get_or order j 0 ≡ n = found.1.1 in
     let code : first_code (text_at texts (get_or order j 0)) ≡ first_code items =
     rw is (same_code items (text_at texts n) (long_at texts n known.texts lt) begins) in
     let low : start ≤ j = rw (start_is, ← code) (h.starts j found.1.0) in
     let high : j < end = rw (end_is, ← code) (h.ends j found.1.0) in
-    let fits : end ≤ length order = rw end_is (h.fits (first_code items)) in
-    let i = j - start in
+    let fits : end ≤ length order = rw end_is (h.fits (first_code items)) in let i = j - start in
     let cut : i < end - start = omega arith in
     let within : i < length (part_of texts order start end) =
     omega (arith, length-take (end - start) (drop start links), length-drop start links, length-linked texts [] order) in

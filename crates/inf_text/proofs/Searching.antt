@@ -21,19 +21,17 @@ Fits m items found = (found.0 < m) × (found.1 ≤ length items)
 longer-fits : (best : Option (ℕ × ℕ)) (n len m : ℕ) (items : List TextItem) → IfSome best (Fits m items) → n < m → len ≤ length items →
     IfSome (longer best n len) (Fits m items)
 longer-fits None n len m items h lt le = (lt, le)
-longer-fits (Some best) n len m items h lt le = go (ltb best.1 len)
-  where
-    go : (b : Bool) → IfSome (cond b (Some (n, len)) (Some best)) (Fits m items)
-    go true = (lt, le)
-    go false = h
+longer-fits (Some best) n len m items h lt le = go (ltb best.1 len) where
+  go : (b : Bool) → IfSome (cond b (Some (n, len)) (Some best)) (Fits m items)
+  go true = (lt, le)
+  go false = h
 
 better-fits : (best : Option (ℕ × ℕ)) (n : ℕ) (a : List TextItem) (m : ℕ) (items : List TextItem) → IfSome best (Fits m items) → n < m →
     IfSome (better best n a items) (Fits m items)
-better-fits best n a m items h lt = go (begins_with items a) refl
-  where
-    go : (b : Bool) → begins_with items a ≡ b → IfSome (cond b (longer best n (length a)) best) (Fits m items)
-    go true e = longer-fits best n (length a) m items h lt (begins_with-fits items a e)
-    go false e = h
+better-fits best n a m items h lt = go (begins_with items a) refl where
+  go : (b : Bool) → begins_with items a ≡ b → IfSome (cond b (longer best n (length a)) best) (Fits m items)
+  go true e = longer-fits best n (length a) m items h lt (begins_with-fits items a e)
+  go false e = h
 
 pub longest_from-fits : (best : Option (ℕ × ℕ)) (n : ℕ) (texts : List (List TextItem)) (m : ℕ) (items : List TextItem) →
     n + length texts ≡ m → IfSome best (Fits m items) → IfSome (longest_from best n texts items) (Fits m items)
@@ -48,9 +46,8 @@ longest-fits texts items = longest_from-fits None 0 texts (length texts) items (
 -- the number of the longest is that of a declared one
 pub longest-few : (texts : List (List TextItem)) (items : List TextItem) → length texts ≤ 64 →
     IfSome (longest texts items) (λ found. (found.0 < 64) × (found.1 ≤ length items))
-longest-few texts items le = go (longest texts items) (longest-fits texts items)
-  where
-    go : (found : Option (ℕ × ℕ)) → IfSome found (Fits (length texts) items) →
-        IfSome found (λ found. (found.0 < 64) × (found.1 ≤ length items))
-    go None h = tt
-    go (Some found) h = let lt : found.0 < length texts = h.0 in (omega arith, h.1)
+longest-few texts items le = go (longest texts items) (longest-fits texts items) where
+  go : (found : Option (ℕ × ℕ)) → IfSome found (Fits (length texts) items) →
+      IfSome found (λ found. (found.0 < 64) × (found.1 ≤ length items))
+  go None h = tt
+  go (Some found) h = let lt : found.0 < length texts = h.0 in (omega arith, h.1)

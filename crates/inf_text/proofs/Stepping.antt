@@ -41,6 +41,4 @@ pub plain-more : (old new : List ℕ × List ℕ) (zs : List ℕ) (items rest wh
     completed new (zs_from [] 0 rest) ≡ words (zs_from [] 0 whole)
 unfolding longest
 plain-more old new zs items rest whole x split is takes h = takes (zs_from [] 0 rest)
-    ∙ ap (λ ys. completed old (ys ++ zs_from [] 0 rest)) is
-    ∙ ap (λ xs. completed old (zs_from [] 0 xs)) (sym split)
-    ∙ h
+    ∙ ap (λ ys. completed old (ys ++ zs_from [] 0 rest)) is ∙ ap (λ xs. completed old (zs_from [] 0 xs)) (sym split) ∙ h

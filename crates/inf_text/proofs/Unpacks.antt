@@ -14,13 +14,11 @@ use Rattle.inf_characters.specs.{Characters.is_code, Items.IsItem, Items.IsText,
 -- the five bits of each Z-character of a word, whatever its top bit is
 first_bits : (t a b c v : ℕ) → b < 32 → c < 32 → a < 32 → v ≡ 32768 * t + 1024 * a + 32 * b + c → v / 1024 % 32 ≡ a
 first_bits t a b c v lb lc la e =
-    let q : v / 1024 ≡ 32 * t + a = omega arith in
-    rw q (omega arith)
+    let q : v / 1024 ≡ 32 * t + a = omega arith in rw q (omega arith)
 
 second_bits : (t a b c v : ℕ) → b < 32 → c < 32 → v ≡ 32768 * t + 1024 * a + 32 * b + c → v / 32 % 32 ≡ b
 second_bits t a b c v lb lc e =
-    let q : v / 32 ≡ 32 * (32 * t + a) + b = omega arith in
-    rw q (omega arith)
+    let q : v / 32 ≡ 32 * (32 * t + a) + b = omega arith in rw q (omega arith)
 
 third_bits : (t a b c v : ℕ) → c < 32 → v ≡ 32768 * t + 1024 * a + 32 * b + c → v % 32 ≡ c
 third_bits t a b c v lc e = omega arith
@@ -95,27 +93,22 @@ printed-letter texts alphabet z zs le not_six not_seven =
 position_from-at : (c first : ℕ) (xs : List ℕ) (place : ℕ) → position_from (λ x. eqb x c) first xs ≡ Some place →
     (first ≤ place) × (get_or xs (place - first) 0 ≡ c)
 position_from-at c first [] place e = cc
-position_from-at c first (x ∷ xs) place e = go (eqb x c) refl e (position_from-at c (first + 1) xs place)
-  where
-    go : (t : Bool) → eqb x c ≡ t → cond t (Some first) (position_from (λ x. eqb x c) (first + 1) xs) ≡ Some place →
-        (position_from (λ x. eqb x c) (first + 1) xs ≡ Some place → (first + 1 ≤ place) × (get_or xs (place - (first + 1)) 0 ≡ c)) →
-        (first ≤ place) × (get_or (x ∷ xs) (place - first) 0 ≡ c)
-    go true is e later =
-        let same : x ≡ c = grind (arith, nat_tests) in
-        let at : first ≡ place = cc in
-        let none : place - first ≡ 0 = omega arith in
-        (omega arith, rw none same)
-    go false is e later =
-        let found = later e in
-        let one : place - first ≡ suc (place - (first + 1)) = omega (arith, found.0) in
-        (omega (arith, found.0), rw one found.1)
+position_from-at c first (x ∷ xs) place e = go (eqb x c) refl e (position_from-at c (first + 1) xs place) where
+  go : (t : Bool) → eqb x c ≡ t → cond t (Some first) (position_from (λ x. eqb x c) (first + 1) xs) ≡ Some place →
+      (position_from (λ x. eqb x c) (first + 1) xs ≡ Some place → (first + 1 ≤ place) × (get_or xs (place - (first + 1)) 0 ≡ c)) →
+      (first ≤ place) × (get_or (x ∷ xs) (place - first) 0 ≡ c)
+  go true is e later =
+      let same : x ≡ c = grind (arith, nat_tests) in let at : first ≡ place = cc in
+      let none : place - first ≡ 0 = omega arith in (omega arith, rw none same)
+  go false is e later =
+      let found = later e in let one : place - first ≡ suc (place - (first + 1)) = omega (arith, found.0) in
+      (omega (arith, found.0), rw one found.1)
 
 -- A2 has the punctuation from Z-character 8 on
 punctuation_letter : (c place : ℕ) → get_or punctuation (place - 0) 0 ≡ c → get_or (letters 2) (8 + place - 6) 0 ≡ c
 unfolding punctuation
 punctuation_letter c place h =
-    let behind : 8 + place - 6 ≡ suc (suc place) = omega arith in
-    let same : place - 0 ≡ place = omega arith in
+    let behind : 8 + place - 6 ≡ suc (suc place) = omega arith in let same : place - 0 ≡ place = omega arith in
     rw behind (rw same at h)
 
 -- the Z-characters of what is no letter print it
@@ -143,10 +136,8 @@ Prints texts zs c more = printed texts (Letter 0) (zs ++ more) ≡ TextItem.Char
 prints_small : (texts : List (List TextItem)) (c : ℕ) (more : List ℕ) → (leb 97 c && leb c 122) ≡ true → Prints texts ((c - 91) ∷ []) c more
 unfolding Prints
 prints_small texts c more h =
-    let both = and_both (leb 97 c) (leb c 122) h in
-    let low : 97 ≤ c = grind (arith, nat_tests, both.0) in
-    let high : c ≤ 122 = grind (arith, nat_tests, both.1) in
-    let behind : c - 91 - 6 ≡ c - 97 = omega arith in
+    let both = and_both (leb 97 c) (leb c 122) h in let low : 97 ≤ c = grind (arith, nat_tests, both.0) in
+    let high : c ≤ 122 = grind (arith, nat_tests, both.1) in let behind : c - 91 - 6 ≡ c - 97 = omega arith in
     let at : get_or (letters 0) (c - 91 - 6) 0 ≡ c = rw behind (small_letter (c - 97) (omega arith) ∙ omega arith) in
     printed-letter texts 0 (c - 91) more (omega arith) refl refl ∙ ap (λ (n : ℕ). TextItem.Character n ∷ printed texts (Letter 0) more) at
 
@@ -154,10 +145,8 @@ prints_capital : (texts : List (List TextItem)) (c : ℕ) (more : List ℕ) → 
     Prints texts (4 ∷ (c - 59) ∷ []) c more
 unfolding Prints
 prints_capital texts c more h =
-    let both = and_both (leb 65 c) (leb c 90) h in
-    let low : 65 ≤ c = grind (arith, nat_tests, both.0) in
-    let high : c ≤ 90 = grind (arith, nat_tests, both.1) in
-    let behind : c - 59 - 6 ≡ c - 65 = omega arith in
+    let both = and_both (leb 65 c) (leb c 90) h in let low : 65 ≤ c = grind (arith, nat_tests, both.0) in
+    let high : c ≤ 90 = grind (arith, nat_tests, both.1) in let behind : c - 59 - 6 ≡ c - 65 = omega arith in
     let at : get_or (letters 1) (c - 59 - 6) 0 ≡ c = rw behind (capital_letter (c - 65) (omega arith) ∙ omega arith) in
     printed-letter texts 1 (c - 59) more (omega arith) refl refl ∙ ap (λ (n : ℕ). TextItem.Character n ∷ printed texts (Letter 0) more) at
 
@@ -185,16 +174,14 @@ unfolding character_zs
 printed-character texts c zs = prints_chosen texts c zs _ _ (eqb c 32) (prints_space texts c zs)
     (prints_chosen texts c zs _ _ (leb 97 c && leb c 122) (prints_small texts c zs)
     (prints_chosen texts c zs _ _ (leb 65 c && leb c 90) (prints_capital texts c zs)
-    (prints_chosen texts c zs _ _ (eqb c 13) (prints_new_line texts c zs)
-    (prints_other texts c zs))))
+    (prints_chosen texts c zs _ _ (eqb c 13) (prints_new_line texts c zs) (prints_other texts c zs))))
 
 -- the Z-characters of an item print it
 printed-item : (texts : List (List TextItem)) (x : TextItem) (zs : List ℕ) → IsItem x →
     printed texts (Letter 0) (item_zs x ++ zs) ≡ x ∷ printed texts (Letter 0) zs
 unfolding Prints
 printed-item texts (TextItem.Variable n) zs h =
-    let low : ltb (0 + n) 32 ≡ true = grind (arith, nat_tests) in
-    let same : 0 + n ≡ n = omega arith in
+    let low : ltb (0 + n) 32 ≡ true = grind (arith, nat_tests) in let same : 0 + n ≡ n = omega arith in
     rw low (ap (λ (m : ℕ). TextItem.Variable m ∷ printed texts (Letter 0) zs) same)
 printed-item texts (TextItem.Character c) zs h = printed-character texts c zs
 
@@ -202,13 +189,10 @@ printed-item texts (TextItem.Character c) zs h = printed-character texts c zs
 printed-abbreviation : (texts : List (List TextItem)) (n : ℕ) (zs : List ℕ) → n < 64 →
     printed texts (Letter 0) (abbreviation_zs n ++ zs) ≡ get_or texts n [] ++ printed texts (Letter 0) zs
 printed-abbreviation texts n zs lt =
-    let bank = (32 + n) / 32 + 1 in
-    let not_space : eqb bank 0 ≡ false = grind (arith, nat_tests) in
-    let bank_fits : bank < 4 = omega arith in
-    let entry : ltb bank 4 ≡ true = grind (arith, nat_tests) in
+    let bank = (32 + n) / 32 + 1 in let not_space : eqb bank 0 ≡ false = grind (arith, nat_tests) in
+    let bank_fits : bank < 4 = omega arith in let entry : ltb bank 4 ≡ true = grind (arith, nat_tests) in
     let number : 32 * (bank - 1) + (32 + n) % 32 ≡ 32 + n = omega arith in
-    let declared : ltb (32 + n) 32 ≡ false = grind (arith, nat_tests) in
-    let place : 32 + n - 32 ≡ n = omega arith in
+    let declared : ltb (32 + n) 32 ≡ false = grind (arith, nat_tests) in let place : 32 + n - 32 ≡ n = omega arith in
     rw (not_space, entry, number, declared, place) refl
 
 AreZs-append : (xs ys : List ℕ) → AreZs xs → AreZs ys → AreZs (xs ++ ys)
@@ -219,12 +203,11 @@ AreZs-append (x ∷ xs) ys h k = (h.0, AreZs-append xs ys h.1 k)
 position_from-within : (c first : ℕ) (xs : List ℕ) (place : ℕ) → position_from (λ x. eqb x c) first xs ≡ Some place →
     place < first + length xs
 position_from-within c first [] place e = cc
-position_from-within c first (x ∷ xs) place e = go (eqb x c) e (position_from-within c (first + 1) xs place)
-  where
-    go : (t : Bool) → cond t (Some first) (position_from (λ x. eqb x c) (first + 1) xs) ≡ Some place →
-        (position_from (λ x. eqb x c) (first + 1) xs ≡ Some place → place < first + 1 + length xs) → place < first + length (x ∷ xs)
-    go true e later = let at : first ≡ place = cc in omega arith
-    go false e later = omega (arith, later e)
+position_from-within c first (x ∷ xs) place e = go (eqb x c) e (position_from-within c (first + 1) xs place) where
+  go : (t : Bool) → cond t (Some first) (position_from (λ x. eqb x c) (first + 1) xs) ≡ Some place →
+      (position_from (λ x. eqb x c) (first + 1) xs ≡ Some place → place < first + 1 + length xs) → place < first + length (x ∷ xs)
+  go true e later = let at : first ≡ place = cc in omega arith
+  go false e later = omega (arith, later e)
 
 within_punctuation : (c place : ℕ) → position_from (λ x. eqb x c) 0 punctuation ≡ Some place → place < 24
 unfolding punctuation
@@ -232,12 +215,10 @@ within_punctuation c place e = position_from-within c 0 punctuation place e
 
 AreZs-other : (c : ℕ) (found : Option ℕ) → c < 256 → position_from (λ x. eqb x c) 0 punctuation ≡ found → AreZs (other_zs c found)
 AreZs-other c None lt e =
-    let high : c / 32 < 32 = omega arith in
-    let low : c % 32 < 32 = omega arith in
+    let high : c / 32 < 32 = omega arith in let low : c % 32 < 32 = omega arith in
     (lit< tt, (lit< tt, (high, (low, tt))))
 AreZs-other c (Some place) lt e =
-    let within : place < 24 = within_punctuation c place e in
-    (lit< tt, (omega arith, tt))
+    let within : place < 24 = within_punctuation c place e in (lit< tt, (omega arith, tt))
 
 AreZs-chosen : (t : Bool) (xs ys : List ℕ) → (t ≡ true → AreZs xs) → AreZs ys → AreZs (cond t xs ys)
 AreZs-chosen true xs ys p q = p refl
@@ -249,8 +230,7 @@ AreZs-character c lt = AreZs-chosen (eqb c 32) _ _ (λ _. (lit< tt, tt))
     (AreZs-chosen (leb 97 c && leb c 122) _ _ (λ h. let high : c ≤ 122 = grind (arith, nat_tests, (and_both (leb 97 c) (leb c 122) h).1) in
     (omega arith, tt))
     (AreZs-chosen (leb 65 c && leb c 90) _ _ (λ h. let high : c ≤ 90 = grind (arith, nat_tests, (and_both (leb 65 c) (leb c 90) h).1) in
-    (lit< tt, (omega arith, tt)))
-    (AreZs-chosen (eqb c 13) _ _ (λ _. (lit< tt, (lit< tt, tt)))
+    (lit< tt, (omega arith, tt))) (AreZs-chosen (eqb c 13) _ _ (λ _. (lit< tt, (lit< tt, tt)))
     (AreZs-other c (position_from (λ x. eqb x c) 0 punctuation) lt refl))))
 
 -- a code is a byte
@@ -263,8 +243,7 @@ AreZs-item (TextItem.Variable n) h = (lit< tt, (h, tt))
 
 AreZs-abbreviation : (n : ℕ) → n < 64 → AreZs (abbreviation_zs n)
 AreZs-abbreviation n lt =
-    let bank : (32 + n) / 32 + 1 < 32 = omega arith in
-    let place : (32 + n) % 32 < 32 = omega arith in
+    let bank : (32 + n) / 32 + 1 < 32 = omega arith in let place : (32 + n) % 32 < 32 = omega arith in
     (bank, (place, tt))
 
 IsText-right : (xs ys : List TextItem) → IsText (xs ++ ys) → IsText ys
@@ -299,8 +278,7 @@ printed-parts declared texts (Plain x ∷ parts) items zs agrees text (rest, (sp
     (printed-item texts x (flat_map part_zs parts ++ zs) text'.0 ∙ ap (λ (r : List TextItem). x ∷ r)
     (printed-parts declared texts parts rest zs agrees text'.1 cuts))
 printed-parts declared texts (Short n ∷ parts) items zs agrees text (a, (rest, (takes, cuts))) =
-    let text' : IsText (a ++ rest) = rw takes.items_are at text in
-    let known = agrees n a takes.declared_as in
+    let text' : IsText (a ++ rest) = rw takes.items_are at text in let known = agrees n a takes.declared_as in
     rw (takes.items_are, append_assoc a rest (printed texts (Letter 0) zs))
     (printed-abbreviation texts n (flat_map part_zs parts ++ zs) known.0 ∙ rw known.1
     (ap (λ (r : List TextItem). a ++ r) (printed-parts declared texts parts rest zs agrees (IsText-right a rest text') cuts)))
@@ -309,12 +287,10 @@ printed-parts declared texts (Short n ∷ parts) items zs agrees text (a, (rest,
 printed-words : (declared texts : List (List TextItem)) (items : List TextItem) → AreLongTexts declared → Agrees declared texts →
     IsText items → printed texts (Letter 0) (string_zs (words (zs_from declared 0 items))) ≡ items
 printed-words declared texts items long agrees text =
-    let cut = is_cut declared items long in
-    let zs = flat_map part_zs cut.0 in
+    let cut = is_cut declared items long in let zs = flat_map part_zs cut.0 in
     let small : AreZs zs = AreZs-parts declared texts cut.0 items agrees text cut.1.0 in
     let read = string_zs-words zs small in
-    rw (cut.1.1, read.1)
-    (printed-parts declared texts cut.0 items (replicate read.0 5) agrees text cut.1.0
+    rw (cut.1.1, read.1) (printed-parts declared texts cut.0 items (replicate read.0 5) agrees text cut.1.0
     ∙ ap (λ (r : List TextItem). items ++ r) (printed-fill texts read.0 0) ∙ append-nil items)
 
 -- an abbreviation's own string prints its text

@@ -50,8 +50,7 @@ better best n a items = if begins_with items a then longer best n (length a) els
 -- the number and the length of the longest abbreviation with which the items begin: the best one so far, or one of those from number n on
 abbrev pub longest_from : Option (ℕ × ℕ) → ℕ → List (List TextItem) → List TextItem → Option (ℕ × ℕ)
 longest_from best n [] items = best
-longest_from best n (a ∷ declared) items =
-    longest_from (better best n a items) (n + 1) declared items
+longest_from best n (a ∷ declared) items = longest_from (better best n a items) (n + 1) declared items
 
 -- the number and the length of the longest declared abbreviation with which the items begin
 unfoldable pub longest : List (List TextItem) → List TextItem → Option (ℕ × ℕ)

@@ -33,8 +33,7 @@ pub record TakesLongest (declared : List (List TextItem)) (items : List TextItem
 -- abbreviation begins, and an abbreviation is the longest that begins there.
 abbrev pub Cuts : List (List TextItem) → List Part → List TextItem → Type 0
 Cuts declared [] items = items ≡ []
-Cuts declared (Plain x ∷ parts) items =
-    (rest : List TextItem) × ((items ≡ x ∷ rest) × NoneBegins declared items × Cuts declared parts rest)
+Cuts declared (Plain x ∷ parts) items = (rest : List TextItem) × ((items ≡ x ∷ rest) × NoneBegins declared items × Cuts declared parts rest)
 Cuts declared (Short n ∷ parts) items =
     (a : List TextItem) × ((rest : List TextItem) × (TakesLongest declared items n a rest × Cuts declared parts rest))
 
@@ -50,5 +49,4 @@ pub record AreAbbreviations (declared : List (List TextItem)) : Type 0 where
 
 -- the Z-characters of a text are those of parts that cut it
 abbrev pub IsCut : List (List TextItem) → List TextItem → Type 0
-IsCut declared items =
-    (parts : List Part) × (Cuts declared parts items × (zs_from declared 0 items ≡ flat_map part_zs parts))
+IsCut declared items = (parts : List Part) × (Cuts declared parts items × (zs_from declared 0 items ≡ flat_map part_zs parts))

@@ -27,8 +27,7 @@ text_at texts n = slice_index_or texts n []
 -- a number and its length in place of the best one so far, if it is longer, or as long and its number lower
 abbrev pub pick : Option (ℕ × ℕ) → ℕ → ℕ → Option (ℕ × ℕ)
 pick None n len = Some (n, len)
-pick (Some best) n len =
-    if nat_lt len best.1 || ((len == best.1) && nat_le best.0 n) then Some best else Some (n, len)
+pick (Some best) n len = if nat_lt len best.1 || ((len == best.1) && nat_le best.0 n) then Some best else Some (n, len)
 
 -- a text in place of the best one so far, if the items begin with it and it is better
 abbrev pub tried : List TextItem → Option (ℕ × ℕ) → ℕ → List TextItem → Option (ℕ × ℕ)
@@ -37,8 +36,7 @@ tried items best n a = if common items a == length a then pick best n (length a)
 -- the best of some texts, by their links
 abbrev pub best_of : List (List TextItem) → List TextItem → Option (ℕ × ℕ) → List Link → Option (ℕ × ℕ)
 best_of texts items best [] = best
-best_of texts items best (l ∷ links) =
-    best_of texts items (tried items best l.number (text_at texts l.number)) links
+best_of texts items best (l ∷ links) = best_of texts items (tried items best l.number (text_at texts l.number)) links
 
 -- each number is below a bound
 abbrev pub AreBelow : ℕ → List ℕ → Type 0

@@ -126,7 +126,6 @@ impl Abbreviations {
         self.texts.is_empty()
     }
 
-    /// Returns the number and the length of the longest abbreviation with which `items` begin.
     #[inline]
     pub(crate) fn longest(&self, items: &[TextItem]) -> Option<(usize, usize)>
         ensures declared { AreAbbreviations self.now }
@@ -144,7 +143,6 @@ fn is_among(texts: &[Text], text: &[TextItem]) -> bool
     texts.iter().any(|a| same_text(a.as_slice(), text))
 }
 
-/// Returns whether two texts have the same items.
 fn same_text(a: &[TextItem], b: &[TextItem]) -> bool
     ensures { result ≡ same_text a.now b.now }
 {

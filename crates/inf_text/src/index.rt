@@ -1,10 +1,9 @@
 //! The search for the longest abbreviation.
 //!
-//! The texts stand in an order in which those that begin alike are neighbours, each with how many
-//! items it has in common with the one before it. So what was compared with one text need not be
-//! compared again with the next. Where texts part, the group with the most texts comes first: then few
-//! texts are begun and left again on the way to any other, since each time at least half of the
-//! group that is left lies behind. No clause rests on the order: it only makes the search short.
+//! The texts stand in an order in which those that begin alike are neighbours, each with how many items it has in common with the one
+//! before it. So what was compared with one text need not be compared again with the next. Where texts part, the group with the most texts
+//! comes first: then few texts are begun and left again on the way to any other, since each time at least half of the group that is left
+//! lies behind. No clause rests on the order: it only makes the search short.
 ghost use Rattle.std.specs.Prelude.{◌≡◌, ◌<◌, ◌≤◌, ◌+◌, ◌-◌, ◌==◌, ◌&&◌, ◌||◌, IfSome, None, [], length, drop, replicate, if◌then◌else◌};
 ghost use Rattle.inf_characters.specs.Items.{same_item};
 ghost use Rattle.inf_text.specs.Packing.{begins_with, longest};
@@ -17,8 +16,7 @@ use inf_characters::{Text, TextItem};
 /// The most abbreviations that a source may declare.
 pub(crate) const MOST: usize = 64;
 
-/// An abbreviation by its number and its length, how many items it has in common with the one before
-/// it, and the code of the next item.
+/// An abbreviation by its number and its length, how many items it has in common with the one before it, and the code of the next item.
 #[derive(Clone, Copy, Default)]
 pub(crate) struct Link {
     number: u8,
@@ -27,8 +25,7 @@ pub(crate) struct Link {
     len: usize,
 }
 
-/// For each code the places from the first to the last text that begins with it, and the place
-/// behind.
+/// For each code the places from the first to the last text that begins with it, and the place behind.
 #[derive(Clone, Copy)]
 pub(crate) struct Ranges {
     starts: [u8; 256],
@@ -73,7 +70,6 @@ impl Index {
         self.ranges = ranges_of(texts, self.order.as_slice());
     }
 
-    /// Returns the number and the length of the longest of the texts with which the items begin.
     #[inline]
     pub(crate) fn longest(&self, texts: &[Text], items: &[TextItem]) -> Option<(usize, usize)>
         requires { AreIndexed texts.now self.now }
@@ -111,8 +107,7 @@ fn longest_of(links: &[Link], texts: &[Text], items: &[TextItem]) -> Option<(usi
     best
 }
 
-/// Returns the number of items that `items` and `text` have in common at their fronts, where `matched` of them are
-/// known to be.
+/// Returns the number of items that `items` and `text` have in common at their fronts, where `matched` of them are known to be.
 #[inline]
 fn common_from(matched: usize, items: &[TextItem], text: &[TextItem]) -> usize
     requires items { matched ≤ length items.now }
@@ -204,7 +199,6 @@ fn first_code(items: &[TextItem]) -> u8
     }
 }
 
-/// Returns the code of a character, or the number of a string variable.
 #[inline]
 fn code_of(item: TextItem) -> u8
     ensures { result ≡ code_of item }
@@ -228,8 +222,7 @@ fn place_of(text: &[TextItem], texts: &[Text], sorted: &[u8]) -> usize
     sorted.len()
 }
 
-/// Returns whether a text comes before another: at the first item that they have not in common it ends or has
-/// the lower code.
+/// Returns whether a text comes before another: at the first item that they have not in common it ends or has the lower code.
 fn precedes(text: &[TextItem], other: &[TextItem]) -> bool {
     let shared = common_len(text, other);
     match (text.get(shared), other.get(shared)) {

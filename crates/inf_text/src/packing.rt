@@ -10,9 +10,8 @@ use crate::zchars::{ZChars, abbreviation_zs, item_zs};
 use inf_characters::{Text, TextItem};
 use std::alloc::{AllocError, Global};
 
-/// Returns the bytes of a text, packed with the abbreviations that are given (Z-Machine Standard 1.1,
-/// section 3). At each place that is reached, the longest abbreviation that stands there is taken.
-/// The only error is that there is too little memory.
+/// Returns the bytes of a text, packed with the abbreviations that are given (Z-Machine Standard 1.1, section 3). At each place that is
+/// reached, the longest abbreviation that stands there is taken. The only error is that there is too little memory.
 pub fn pack(
     alloc: Global,
     text: &Text,

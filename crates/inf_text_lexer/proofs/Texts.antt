@@ -17,7 +17,6 @@ found_is set limit seen text behind turn e now after found ended =
 
 -- The token of that ending is the next one of the text.
 pub token_is : (set : CharSet) (limit : ℕ) (lines : Lines) (text behind : List ℕ) (e : Ending) (after : Sight) (k : TokenKind)
-    → record { ending = e; seen = after; rest = behind } ≡ find set limit State.Gap (begun lines) text
-    → k ≡ kind_of set e after.kept
+    → record { ending = e; seen = after; rest = behind } ≡ find set limit State.Gap (begun lines) text → k ≡ kind_of set e after.kept
     → read_with k after behind ≡ next_token set limit lines text
 token_is set limit lines text behind e after k found is = ap (λ x. read_with x after behind) is ∙ ap (λ (f : Found). read_of set f) found

@@ -39,8 +39,7 @@ impl<'t> Model for TextLexer<'t> {
     ghost invariant = { λ l. l.seen.lines.line + length l.rest.now < 2 ^ 32 };
 }
 
-/// Returns the ending of the token that `turn` ends; where it ends none, the text has ended, and the ending is that of
-/// its state there.
+/// Returns the ending of the token that `turn` ends; where it ends none, the text has ended, and the ending is that of its state there.
 fn ending_of(turn: Turn, seen: &mut Seen) -> Ending
     ensures found { (set : Set) (limit : ℕ) (rest : List ℕ) → (is_on turn ≡ true → rest ≡ []) →
         record { ending = result; seen = sight seen.new; rest = rest } ≡ found_after set limit turn (sight seen.old) rest }

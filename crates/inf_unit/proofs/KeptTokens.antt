@@ -23,8 +23,7 @@ end_is kind place is_class atom end = div-add-mod' end halves
 -- Bytes that come behind change nothing between two places.
 between_more : (start end : ℕ) (bytes more : List ℕ) → start ≤ end → end ≤ length bytes
     → between start end (bytes ++ more) ≡ between start end bytes
-between_more start end bytes more order there =
-    ap (take (end - start)) (drop-append-le start bytes more (omega (arith, order, there)))
+between_more start end bytes more order there = ap (take (end - start)) (drop-append-le start bytes more (omega (arith, order, there)))
     ∙ take-append-le (end - start) (drop start bytes) more (omega (arith, order, there, length-drop start bytes))
 
 -- the bytes that come last
@@ -38,18 +37,15 @@ between_last start end bytes more begins ends =
 pub tokens_more : (start : ℕ) (ks : List Kept) (bytes more : List ℕ) → AreKept start ks bytes
     → kept_tokens start ks (bytes ++ more) ≡ kept_tokens start ks bytes
 tokens_more start [] bytes more kept = refl
-tokens_more start (k ∷ ks) bytes more kept =
-    ap (λ (b : List ℕ). token_with k b ∷ kept_tokens (end_of k) ks (bytes ++ more))
+tokens_more start (k ∷ ks) bytes more kept = ap (λ (b : List ℕ). token_with k b ∷ kept_tokens (end_of k) ks (bytes ++ more))
     (between_more start (end_of k) bytes more kept.0.order kept.0.there)
     ∙ ap (λ (ts : List SourceToken). kept_token start k bytes ∷ ts) (tokens_more (end_of k) ks bytes more kept.1)
 
 -- A token is added whose bytes come behind all others.
 pub one_more : (start : ℕ) (ks : List Kept) (k : Kept) (bytes more : List ℕ) → AreKept start ks bytes → end_of k ≡ length (bytes ++ more)
     → kept_tokens start (ks ++ k ∷ []) (bytes ++ more) ≡ kept_tokens start ks bytes ++ token_with k more ∷ []
-one_more start [] k bytes more kept ends =
-    ap (λ (b : List ℕ). token_with k b ∷ []) (between_last start (end_of k) bytes more kept ends)
-one_more start (j ∷ ks) k bytes more kept ends =
-    ap (λ (b : List ℕ). token_with j b ∷ kept_tokens (end_of j) (ks ++ k ∷ []) (bytes ++ more))
+one_more start [] k bytes more kept ends = ap (λ (b : List ℕ). token_with k b ∷ []) (between_last start (end_of k) bytes more kept ends)
+one_more start (j ∷ ks) k bytes more kept ends = ap (λ (b : List ℕ). token_with j b ∷ kept_tokens (end_of j) (ks ++ k ∷ []) (bytes ++ more))
     (between_more start (end_of j) bytes more kept.0.order kept.0.there)
     ∙ ap (λ (ts : List SourceToken). kept_token start j bytes ∷ ts) (one_more (end_of j) ks k bytes more kept.1 ends)
 
@@ -79,8 +75,7 @@ more_kept start (j ∷ ks) k bytes more kept ends seen short =
 -- One token
 
 -- The token at a place: its bytes begin behind those of the tokens before it.
-pub token_at : (start : ℕ) (ks : List Kept) (bytes : List ℕ) (at : ℕ)
-    → slice_get (kept_tokens start ks bytes) at
+pub token_at : (start : ℕ) (ks : List Kept) (bytes : List ℕ) (at : ℕ) → slice_get (kept_tokens start ks bytes) at
     ≡ option_map (λ (k : Kept). kept_token (end_of_all start (take at ks)) k bytes) (slice_get ks at)
 token_at start [] bytes zero = refl
 token_at start [] bytes (suc at) = refl
@@ -134,14 +129,12 @@ got_none ks bytes at past = sym (slice_get_past (kept_tokens 0 ks bytes) at (ome
 
 pub kind_got : (ks : List Kept) (bytes : List ℕ) (at : ℕ) (k : Kept) → slice_get ks at ≡ Some k
     → Some k.kind ≡ kind_at (kept_tokens 0 ks bytes) at
-kind_got ks bytes at k is =
-    sym (ap (option_map (λ (t : SourceToken). t.kind))
+kind_got ks bytes at k is = sym (ap (option_map (λ (t : SourceToken). t.kind))
     (token_at 0 ks bytes at ∙ ap (option_map (λ (x : Kept). kept_token (end_of_all 0 (take at ks)) x bytes)) is))
 
 pub place_got : (ks : List Kept) (bytes : List ℕ) (at : ℕ) (k : Kept) → slice_get ks at ≡ Some k
     → Some (record { file = k.file; line = k.line }) ≡ place_at (kept_tokens 0 ks bytes) at
-place_got ks bytes at k is =
-    sym (ap (option_map (λ (t : SourceToken). t.place))
+place_got ks bytes at k is = sym (ap (option_map (λ (t : SourceToken). t.place))
     (token_at 0 ks bytes at ∙ ap (option_map (λ (x : Kept). kept_token (end_of_all 0 (take at ks)) x bytes)) is))
 
 -- The first tokens
@@ -158,8 +151,7 @@ bounds start (k ∷ ks) bytes (suc n) kept =
 -- Bytes up to a place, and those between two places before it.
 between_front : (start end count : ℕ) (bytes : List ℕ) → start ≤ end → end ≤ count → count ≤ length bytes
     → between start end bytes ≡ between start end (take count bytes)
-between_front start end count bytes order fits there =
-    ap (between start end) (sym (take-append-drop count bytes))
+between_front start end count bytes order fits there = ap (between start end) (sym (take-append-drop count bytes))
     ∙ between_more start end (take count bytes) (drop count bytes) order (omega (arith, fits, length-take-le count bytes there))
 
 -- some of the bytes are those up to a place
@@ -173,8 +165,7 @@ fronts_kept start [] bytes (suc n) count kept is = is_all start count bytes (ome
 fronts_kept start (k ∷ ks) bytes zero count kept is =
     is_all start count bytes (omega (arith, is)) (omega (arith, is, kept.0.order, kept.0.there))
 fronts_kept start (k ∷ ks) bytes (suc n) count kept is =
-    let b = bounds (end_of k) ks bytes n kept.1 in
-    let there : count ≤ length bytes = omega (arith, is, b.1) in
+    let b = bounds (end_of k) ks bytes n kept.1 in let there : count ≤ length bytes = omega (arith, is, b.1) in
     let same = between_front start (end_of k) count bytes kept.0.order (omega (arith, is, b.0)) there in (
       record {
         order = kept.0.order;
@@ -185,8 +176,7 @@ fronts_kept start (k ∷ ks) bytes (suc n) count kept is =
       fronts_kept (end_of k) ks bytes n count kept.1 is,
     )
 
-front_of : (start : ℕ) (ks : List Kept) (bytes : List ℕ) (n : ℕ)
-    → kept_tokens start (take n ks) bytes ≡ take n (kept_tokens start ks bytes)
+front_of : (start : ℕ) (ks : List Kept) (bytes : List ℕ) (n : ℕ) → kept_tokens start (take n ks) bytes ≡ take n (kept_tokens start ks bytes)
 front_of start [] bytes zero = refl
 front_of start [] bytes (suc n) = refl
 front_of start (k ∷ ks) bytes zero = refl
@@ -225,8 +215,7 @@ one_token : (start : ℕ) (ks : List Kept) (bytes : List ℕ) (at : ℕ) (k : Ke
     → take 1 (drop at (kept_tokens start ks bytes)) ≡ kept_token (end_of_all start (take at ks)) k bytes ∷ []
 one_token start [] bytes zero k is = absurd (cc is)
 one_token start [] bytes (suc at) k is = absurd (cc is)
-one_token start (j ∷ ks) bytes zero k is =
-    ap (λ (x : Kept). kept_token start x bytes ∷ []) (ap (λ (o : Option Kept). unwrap_or o j) is)
+one_token start (j ∷ ks) bytes zero k is = ap (λ (x : Kept). kept_token start x bytes ∷ []) (ap (λ (o : Option Kept). unwrap_or o j) is)
 one_token start (j ∷ ks) bytes (suc at) k is = one_token (end_of j) ks bytes at k is
 
 -- The token at a place, whose bytes are from one place to another, is left, and its bytes.
@@ -246,8 +235,7 @@ bytes_are ks now bytes new at k start end place alone = part_is ks bytes new at 
 length_is : (ks now : List Kept) (bytes new : List ℕ) (at : ℕ) (k : Kept) (start end : ℕ) (place : Place) → AreKept 0 ks bytes
     → IsAlone ks now bytes new at k start end place → end - start ≡ length new
 length_is ks now bytes new at k start end place kept alone =
-    let one = kept_at 0 ks bytes at k kept alone.is in
-    let from = end_of_all 0 (take at ks) in
+    let one = kept_at 0 ks bytes at k kept alone.is in let from = end_of_all 0 (take at ks) in
     omega (
       arith,
       alone.begins,
@@ -272,8 +260,7 @@ only_one ks now bytes new at k start end place alone =
 all_its : (ks now : List Kept) (bytes new : List ℕ) (at : ℕ) (k : Kept) (start end : ℕ) (place : Place) → AreKept 0 ks bytes
     → IsAlone ks now bytes new at k start end place
     → between 0 (end_of (moved_one k (end - start))) new ≡ between (end_of_all 0 (take at ks)) (end_of k) bytes
-all_its ks now bytes new at k start end place kept alone =
-    all_between new (end_of (moved_one k (end - start)))
+all_its ks now bytes new at k start end place kept alone = all_between new (end_of (moved_one k (end - start)))
     (moved_end k (end - start) ∙ length_is ks now bytes new at k start end place kept alone)
     ∙ bytes_are ks now bytes new at k start end place alone
 
@@ -303,8 +290,7 @@ alone_kept ks now bytes new at k start end place kept alone =
 
 -- there is no token at a place
 pub none_alone : (ks : List Kept) (bytes : List ℕ) (at : ℕ) → length ks ≤ at → [] ≡ take 1 (drop at (kept_tokens 0 ks bytes))
-none_alone ks bytes at past =
-    sym (ap (take 1) (drop_of_length-le (kept_tokens 0 ks bytes) (omega (arith, count_is 0 ks bytes, past))))
+none_alone ks bytes at past = sym (ap (take 1) (drop_of_length-le (kept_tokens 0 ks bytes) (omega (arith, count_is 0 ks bytes, past))))
 
 -- A token is added
 
@@ -347,8 +333,7 @@ added_tokens ks now bytes new more kind place is_class atom a kept =
 
 pub cut_kept : (ks now : List Kept) (bytes new : List ℕ) (n end : ℕ) → AreKept 0 ks bytes → now ≡ take n ks → new ≡ take end bytes
     → end ≡ end_of_all 0 (take n ks) → AreKept 0 now new
-cut_kept ks now bytes new n end kept is left ends =
-    subst (λ (b : List ℕ). AreKept 0 now b) (sym left)
+cut_kept ks now bytes new n end kept is left ends = subst (λ (b : List ℕ). AreKept 0 now b) (sym left)
     (subst (λ (l : List Kept). AreKept 0 l (take end bytes)) (sym is) (first_kept ks bytes n end kept ends))
 
 pub cut_tokens : (ks now : List Kept) (bytes new : List ℕ) (n end : ℕ) → AreKept 0 ks bytes → now ≡ take n ks → new ≡ take end bytes

@@ -18,23 +18,19 @@ is_ascii (b ∷ name) e (suc i) = is_ascii name (and_parts (nat_lt b 128) (are_a
 
 -- a byte in lower case is over 127 exactly if it is
 lower : (b : ℕ) → nat_lt (to_ascii_lowercase b) 128 ≡ nat_lt b 128
-lower b = by_tests (nat_lt b 65) (nat_lt b 91) refl refl
-  where
-    by_tests : (s t : Bool) → nat_lt b 65 ≡ s → nat_lt b 91 ≡ t → nat_lt (cond s b (cond t (b + 32) b)) 128 ≡ nat_lt b 128
-    by_tests true t is within = refl
-    by_tests false true is within = grind (arith, nat_tests)
-    by_tests false false is within = refl
+lower b = by_tests (nat_lt b 65) (nat_lt b 91) refl refl where
+  by_tests : (s t : Bool) → nat_lt b 65 ≡ s → nat_lt b 91 ≡ t → nat_lt (cond s b (cond t (b + 32) b)) 128 ≡ nat_lt b 128
+  by_tests true t is within = refl
+  by_tests false true is within = grind (arith, nat_tests)
+  by_tests false false is within = refl
 
 all_lower : (name : List ℕ) → are_ascii (map to_ascii_lowercase name) ≡ are_ascii name
 all_lower [] = refl
-all_lower (b ∷ name) =
-    ap (λ t. t && are_ascii (map to_ascii_lowercase name)) (lower b) ∙ ap (λ t. nat_lt b 128 && t) (all_lower name)
+all_lower (b ∷ name) = ap (λ t. t && are_ascii (map to_ascii_lowercase name)) (lower b) ∙ ap (λ t. nat_lt b 128 && t) (all_lower name)
 
 named_ascii : (name : List ℕ) (o : Opcode) → has_name name o ≡ true → are_ascii (name_of o) ≡ are_ascii name
-named_ascii name o e =
-    sym (all_lower (name_of o))
-    ∙ ap are_ascii ((bytes_eq-Decides (map to_ascii_lowercase (name_of o)) (map to_ascii_lowercase name)).0 e)
-    ∙ all_lower name
+named_ascii name o e = sym (all_lower (name_of o))
+    ∙ ap are_ascii ((bytes_eq-Decides (map to_ascii_lowercase (name_of o)) (map to_ascii_lowercase name)).0 e) ∙ all_lower name
 
 -- no opcode of a list, whose names have no byte over 127, has a name with one
 none_named : (name : List ℕ) (os : List Opcode) → list_all (λ o. are_ascii (name_of o)) os ≡ true → are_ascii name ≡ false
@@ -51,8 +47,7 @@ unfolding opcodes
 all_ascii = refl
 
 pub any_name : (name : List ℕ) → opcode_named name ≡ cond (are_ascii name) (opcode_named name) None
-any_name name = by_test (are_ascii name) refl
-  where
-    by_test : (t : Bool) → are_ascii name ≡ t → opcode_named name ≡ cond t (opcode_named name) None
-    by_test true e = refl
-    by_test false e = none_named name opcodes all_ascii e
+any_name name = by_test (are_ascii name) refl where
+  by_test : (t : Bool) → are_ascii name ≡ t → opcode_named name ≡ cond t (opcode_named name) None
+  by_test true e = refl
+  by_test false e = none_named name opcodes all_ascii e

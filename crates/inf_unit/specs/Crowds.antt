@@ -2,7 +2,7 @@
 -- statement passes that setting, if nothing is wrong with it. For a further value it matters only whether something is wrong with it that
 -- is told before all else that is wrong, and whether it passes a setting that is told before that one: by a name or a word that did not
 -- come before, or by what it lays beside bytes. The number of an action depends on the actions before it.
-use Rattle.std.specs.Prelude.{ℕ, List, [], length, take, Bool, true, false, ◌&&◌, ◌||◌, Option, Some, None, is_none}
+use Rattle.std.specs.Prelude.{ℕ, List, [], take, Bool, true, false, ◌&&◌, ◌||◌, Option, Some, None, is_none}
 use Rattle.inf_expressions.specs.{declared.findings.Finding.Finding, declared.operators.Operand.Operand}
 use Rattle.inf_expressions.specs.Findings.{is_before, least_of_both}
 use Rattle.inf_gathering.specs.declared.gathering.Extent.{Extent}

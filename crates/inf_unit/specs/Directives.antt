@@ -49,8 +49,7 @@ directive_of _ = Directive.SystemFile
 
 -- the weight of a message by `word`, which comes behind `Message`
 abbrev pub weight_of_word : List ℕ → Kind
-weight_of_word word =
-    if str_eq_ignore_ascii_case word (codes "error") then Kind.Error else
+weight_of_word word = if str_eq_ignore_ascii_case word (codes "error") then Kind.Error else
     if str_eq_ignore_ascii_case word (codes "warning") then Kind.Warning else Kind.Fatal
 
 -- the weight of a message: by the first of `names`, the word behind `Message`, or none without a word

@@ -5,15 +5,10 @@ use Rattle.inf_unit.specs.{declared.items.Item.Item, declared.items.PrintRule.Pr
 -- Print rule of a name: those of the language are told with case, and every other name is that of a routine. Designer's Manual,
 -- fourth edition, section 1.11.
 abbrev pub rule_of : List ℕ → PrintRule
-rule_of name =
-    if bytes_eq name (codes "char") then PrintRule.Character else
-    if bytes_eq name (codes "string") then PrintRule.String else
-    if bytes_eq name (codes "address") then PrintRule.Address else
-    if bytes_eq name (codes "object") then PrintRule.Object else
-    if bytes_eq name (codes "name") then PrintRule.ShortName else
-    if bytes_eq name (codes "the") then PrintRule.DefiniteArticle else
-    if bytes_eq name (codes "The") then PrintRule.CapitalArticle else
-    if bytes_eq name (codes "a") then PrintRule.IndefiniteArticle else
+rule_of name = if bytes_eq name (codes "char") then PrintRule.Character else if bytes_eq name (codes "string") then PrintRule.String else
+    if bytes_eq name (codes "address") then PrintRule.Address else if bytes_eq name (codes "object") then PrintRule.Object else
+    if bytes_eq name (codes "name") then PrintRule.ShortName else if bytes_eq name (codes "the") then PrintRule.DefiniteArticle else
+    if bytes_eq name (codes "The") then PrintRule.CapitalArticle else if bytes_eq name (codes "a") then PrintRule.IndefiniteArticle else
     if bytes_eq name (codes "an") then PrintRule.IndefiniteArticle else
     if bytes_eq name (codes "number") then PrintRule.EnglishNumber else PrintRule.Routine
 

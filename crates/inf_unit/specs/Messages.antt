@@ -31,9 +31,8 @@ pub record Diagnostic : Type 0 where
   pub place : Place
   pub message : Message
 
--- Message of an error at a token, as messages name it, with these bytes. A token does not show where a name was
--- declared first, nor of what there are too many: these two errors are told where it is known. Here the name is one of the language, and
--- there are too many values.
+-- Message of an error at a token, as messages name it, with these bytes. A token does not show where a name was declared first, nor of what
+-- there are too many: these two errors are told where it is known. Here the name is one of the language, and there are too many values.
 unfoldable pub message_of : UnitError → Told → List ℕ → Message
 message_of UnitError.NumberOutOfRange t bytes = NumberOutOfRange
 message_of UnitError.UnknownEscape t bytes = UnknownEscape

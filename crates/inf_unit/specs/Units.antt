@@ -51,8 +51,7 @@ no_unit = record {
   outer = None;
   is_sure = false;
   is_over = false;
-  depth =
-      0;
+  depth = 0;
   held = None;
   passed = None;
   long = None;
@@ -292,12 +291,11 @@ printed i u = record u { items = u.items ++ i ∷ []; code = code_behind i u.cod
 
 -- The name in the bracket that was closed last is a print rule: one of the language is no expression.
 abbrev pub ruled_by : PrintRule → Unit → Unit
-ruled_by r u =
-    record u {
-      gathering = with_rule (is_own r) u.gathering;
-      items = u.items ++ Item.Ruled r ∷ [];
-      code = code_behind (Item.Ruled r) u.code;
-    }
+ruled_by r u = record u {
+  gathering = with_rule (is_own r) u.gathering;
+  items = u.items ++ Item.Ruled r ∷ [];
+  code = code_behind (Item.Ruled r) u.code;
+}
 
 abbrev pub ruled : Unit → Unit
 ruled u = ruled_by (rule_of (bytes_at u.tokens (length u.tokens - 2))) u
@@ -335,13 +333,12 @@ abbrev pub is_full : Unit → Bool
 is_full u = nat_lt 64 (length u.gathering.firsts) && is_assembly u
 
 abbrev pub operands_passed : Option Finding → Unit → Unit
-operands_passed f u =
-    record u {
-      tokens = take (next_place (next_place u.begun)) u.tokens;
-      gathering = numbers 9;
-      outer = None;
-      passed = least_of_both u.passed f;
-    }
+operands_passed f u = record u {
+  tokens = take (next_place (next_place u.begun)) u.tokens;
+  gathering = numbers 9;
+  outer = None;
+  passed = least_of_both u.passed f;
+}
 
 -- A token of a line of grammar, or of the header of a verb, that has too many ends. The tokens so far are kept, of which one is wrong or
 -- none; a further one is kept where it is wrong, or new, unless one before it is wrong.
@@ -363,14 +360,13 @@ abbrev pub value_kept : Option Finding → Crowd → Unit → Unit
 value_kept f c u = record u { crowd = Some (with_value (length u.tokens) (length u.items) u.code (extent u.gathering) f c) }
 
 abbrev pub value_passed : Crowd → Unit → Unit
-value_passed c u =
-    record u {
-      tokens = take c.line.count u.tokens;
-      items = take c.items u.items;
-      code = c.code;
-      gathering = cut c.extent u.gathering;
-      crowd = Some (without_value c);
-    }
+value_passed c u = record u {
+  tokens = take c.line.count u.tokens;
+  items = take c.items u.items;
+  code = c.code;
+  gathering = cut c.extent u.gathering;
+  crowd = Some (without_value c);
+}
 
 abbrev pub value_sifted_by : Option Crowd → Option Finding → Unit → Unit
 value_sifted_by None f u = u

@@ -74,7 +74,6 @@ fn is_before(finding: Finding, other: Finding) -> bool
     finding.order < other.order || finding.order == other.order && number < other_number
 }
 
-/// Returns whether `finding`, if there is one, comes before `least`.
 fn is_lesser(least: Option<Finding>, finding: Option<Finding>) -> bool
     ensures { result ≡ is_lesser least finding }
 {
@@ -107,8 +106,6 @@ impl Crowd {
         }
     }
 
-    /// Returns whether the value at hand is kept, about which `finding` is the least. Where something is wrong already, no setting is
-    /// passed.
     pub(crate) fn is_telling(&self, finding: Option<Finding>) -> bool
         ensures { result ≡ is_telling finding (crowd self.now) }
     {

@@ -112,7 +112,6 @@ fn least_code(item: Item) -> usize
     }
 }
 
-/// Returns the least number of bytes of the code of some items and `item`, where that of the others is `code`.
 #[tactic(auto, unfolding(crate::specs::Items::code_behind))]
 pub(crate) fn code_behind(item: Item, code: usize) -> usize
     ensures { result ≡ code_behind item code }

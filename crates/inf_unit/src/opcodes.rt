@@ -4,7 +4,6 @@ ghost use Rattle.inf_unit.specs.Opcodes.{opcode_of, takes_text};
 
 use inf_opcode::Opcode;
 
-/// Returns the opcode whose name is `name`, in any case. There is none for a name with a byte over 127, as no opcode has such a name.
 #[tactic(auto, unfolding(crate::specs::Opcodes::opcode_of))]
 pub(crate) fn opcode_of(name: &[u8]) -> Option<Opcode>
     ensures { result ≡ opcode_of name.now }

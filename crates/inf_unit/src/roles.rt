@@ -157,7 +157,6 @@ fn property(part: PropertyPart) -> Role
     two(Binary::Property(part))
 }
 
-/// Returns the role of the test `by` that has to hold.
 fn test(by: Test) -> Role
     ensures { result ≡ test by }
 {

@@ -61,7 +61,6 @@ pub struct Unit {
     pub crowd: Option<Crowd>,
 }
 
-/// Returns the leaf that the token at place `at` of its unit, of `kind`, is.
 fn leaf_of(at: usize, kind: TokenKind) -> Leaf
     ensures { result ≡ leaf_of at kind }
 {
@@ -122,7 +121,6 @@ fn depth_behind(kind: TokenKind, depth: u32) -> u32
     }
 }
 
-/// Returns whether a token of `kind` is a sign before the name of an action or a system constant, if there is a token.
 fn is_sign(kind: Option<TokenKind>) -> bool
     ensures { result ≡ is_sign kind }
 {
@@ -420,8 +418,7 @@ impl Unit {
 
     /// Adds `item`, which is printed and with which an outermost expression ends.
     fn print(&mut self, item: Item) -> Result<(), AllocError>
-        ensures { let before = unit self.old in
-            OnOk result (unit self.new ≡ printed item before) }
+        ensures { let before = unit self.old in OnOk result (unit self.new ≡ printed item before) }
     {
         self.outer = None;
         self.item(item)
@@ -436,7 +433,6 @@ impl Unit {
         self.item(Item::Ruled(rule))
     }
 
-    /// Adds the last token, a text behind an opcode and before the semicolon: as an operand, unless the opcode takes a text of its own.
     fn opcode_text(&mut self) -> Result<(), AllocError>
         ensures { OnOk result (unit self.new ≡ opcode_text (unit self.old)) }
     {
@@ -448,7 +444,6 @@ impl Unit {
         }
     }
 
-    /// Returns whether the unit is an assembly line.
     fn is_assembly(&self) -> bool
         ensures { result ≡ is_assembly (unit self.now) }
     {

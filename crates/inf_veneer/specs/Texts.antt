@@ -3,13 +3,9 @@ use Rattle.std.specs.Prelude.{ℕ, ◌-◌, ◌==◌, List, [], ◌∷◌, ◌++
 
 -- their texts in Inform, in the order in which they are supplied
 unfoldable pub all_texts : List (List ℕ)
-all_texts =
-    codes "[R_Process a n s;print \"<\",a,\" \",n,\" \",s,\">^\";];" ∷
-    codes "[DefArt o;print \"the \";PrintShortName(o);];" ∷
-    codes "[InDefArt o;print \"a \";PrintShortName(o);];" ∷
-    codes "[CDefArt o;print \"The \";PrintShortName(o);];" ∷
-    codes "[PrintShortName o;if(Z__Region(o)==1)print (object) o;else print o;];" ∷
-    codes "[EnglishNumber n;print n;];" ∷
+all_texts = codes "[R_Process a n s;print \"<\",a,\" \",n,\" \",s,\">^\";];" ∷ codes "[DefArt o;print \"the \";PrintShortName(o);];" ∷
+    codes "[InDefArt o;print \"a \";PrintShortName(o);];" ∷ codes "[CDefArt o;print \"The \";PrintShortName(o);];" ∷
+    codes "[PrintShortName o;if(Z__Region(o)==1)print (object) o;else print o;];" ∷ codes "[EnglishNumber n;print n;];" ∷
     codes "[AP__Va o p d k v;v=o.p;WV__Pr(o,p,v+d);if(k)return v+d;return v;];" ∷
     (codes "[CA__Pr o p a b c d e x s t;x=o.p;if(Z__Region(x)==3)print_ret (string) x;if(Z__Region(x)~=2)return x;s=self;" ++
     codes "t=sender;sender=self;self=o;#Ifdef action;sw__var=action;#Endif;x=x(a,b,c,d,e);self=s;sender=t;return x;];") ∷
@@ -27,10 +23,8 @@ all_texts =
     (codes "[Z__Region x;if(x==0)rfalse;if(Unsigned__Compare(x,#highest_object_number)<=0)return 1;" ++
     codes "if(Unsigned__Compare(x,#strings_offset)>=0)return 3;if(Unsigned__Compare(x,#code_offset)>=0)return 2;rfalse;];") ∷
     (codes "[Unsigned__Compare x y;if(x==y)return 0;if(x<0&&y>=0)return 1;if(x>=0&&y<0)return -1;if(x>y)return 1;" ++
-    codes "return -1;];") ∷
-    codes "[Ch__Ln o n;o=child(o);while(o){n++;o=sibling(o);}return n;];" ∷
-    codes "[Sp__Pr n;while(n>0){print \" \";n--;}];" ∷
-    codes "[SB__Va a i v;a->i=v;return v;];" ∷
+    codes "return -1;];") ∷ codes "[Ch__Ln o n;o=child(o);while(o){n++;o=sibling(o);}return n;];" ∷
+    codes "[Sp__Pr n;while(n>0){print \" \";n--;}];" ∷ codes "[SB__Va a i v;a->i=v;return v;];" ∷
     codes "[SW__Va a i v;a-->i=v;return v;];" ∷
     codes "[AB__Va a i d k v;v=a->i;a->i=v+d;if(k)return v+d;return v;];" ∷
     codes "[AW__Va a i d k v;v=a-->i;a-->i=v+d;if(k)return v+d;return v;];" ∷
@@ -38,31 +32,10 @@ all_texts =
 
 -- their names, in the same order
 unfoldable pub all_names : List (List ℕ)
-all_names =
-    codes "R_Process" ∷
-    codes "DefArt" ∷
-    codes "InDefArt" ∷
-    codes "CDefArt" ∷
-    codes "PrintShortName" ∷
-    codes "EnglishNumber" ∷
-    codes "AP__Va" ∷
-    codes "CA__Pr" ∷
-    codes "WV__Pr" ∷
-    codes "RV__Pr" ∷
-    codes "RL__Pr" ∷
-    codes "OP__Pr" ∷
-    codes "RA__Pr" ∷
-    codes "CP__Tab" ∷
-    codes "OC__Cl" ∷
-    codes "Z__Region" ∷
-    codes "Unsigned__Compare" ∷
-    codes "Ch__Ln" ∷
-    codes "Sp__Pr" ∷
-    codes "SB__Va" ∷
-    codes "SW__Va" ∷
-    codes "AB__Va" ∷
-    codes "AW__Va" ∷
-    []
+all_names = codes "R_Process" ∷ codes "DefArt" ∷ codes "InDefArt" ∷ codes "CDefArt" ∷ codes "PrintShortName" ∷ codes "EnglishNumber" ∷
+    codes "AP__Va" ∷ codes "CA__Pr" ∷ codes "WV__Pr" ∷ codes "RV__Pr" ∷ codes "RL__Pr" ∷ codes "OP__Pr" ∷ codes "RA__Pr" ∷ codes "CP__Tab" ∷
+    codes "OC__Cl" ∷ codes "Z__Region" ∷ codes "Unsigned__Compare" ∷ codes "Ch__Ln" ∷ codes "Sp__Pr" ∷ codes "SB__Va" ∷ codes "SW__Va" ∷
+    codes "AB__Va" ∷ codes "AW__Va" ∷ []
 
 -- the one of a number, from 1 on
 abbrev pub numbered : ℕ → List (List ℕ) → Option (List ℕ)

@@ -6,8 +6,7 @@ pub fn texts_have_their_names()
     ensures { TextsHaveTheirNames }
 {}
 
-/// States that, of the names of all routines, the text of one has behind its own only names of routines that
-/// come behind it.
+/// States that, of the names of all routines, the text of one has behind its own only names of routines that come behind it.
 pub fn names_come_behind()
     ensures { NamesComeBehind }
 {}

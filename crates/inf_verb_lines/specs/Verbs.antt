@@ -1,7 +1,7 @@
 -- The directives `Verb`, `Extend` and `Fake_action`, and the lines of the first two, one by one. Designer's Manual, fourth edition,
 -- section 30.
-use Rattle.std.specs.Prelude.{ℕ, zero, suc, ◌+◌, ◌-◌, ◌==◌, min, nat_le, nat_lt, List, [], ◌∷◌, ◌++◌, length, codes, Bool, true, false, not}
-use Rattle.std.specs.Prelude.{◌||◌, if◌then◌else◌, Option, Some, None, is_some, option_map}
+use Rattle.std.specs.Prelude.{ℕ, zero, suc, ◌+◌, ◌-◌, min, nat_le, nat_lt, List, [], ◌∷◌, ◌++◌, length, codes, Bool, true, false, not}
+use Rattle.std.specs.Prelude.{◌||◌, if◌then◌else◌, Option, Some, None, is_some}
 use Rattle.std.specs.Str.{str_eq_ignore_ascii_case}
 use Rattle.inf_settings.specs.{Bounds.Limits, Settings.number_of as setting_number, declared.setting.Setting.Setting}
 use Rattle.inf_settings.specs.{declared.settings.Settings.Settings}
@@ -15,7 +15,7 @@ use Rattle.inf_output.specs.Output.{Code, Out, passed_table, with_word}
 use Rattle.inf_report.specs.{Messages.TooMany, declared.messages.FixedLimit.FixedLimit}
 use Rattle.inf_scanner.specs.{declared.tokens.DictionaryWord.DictionaryWord, declared.tokens.Mark.Mark, declared.tokens.Place.Place}
 use Rattle.inf_scanner.specs.{declared.tokens.TokenKind.TokenKind}
-use Rattle.inf_unit.specs.{LongLines.LongLine, LongLines.name_added, LongLines.word_added, Messages.Diagnostic, Tokens.SourceToken}
+use Rattle.inf_unit.specs.{LongLines.LongLine, LongLines.name_added, LongLines.word_added, Tokens.SourceToken}
 use Rattle.inf_unit.specs.Units.{Unit, bytes_at, first_place, is_some_mark, kind_at, last_leaf, name_at, name_order, next_place, order}
 use Rattle.inf_unit.specs.Units.{sifted}
 use Rattle.inf_compilation.specs.{Context.Context, declared.compilation.Extending.Extending}
@@ -79,8 +79,7 @@ verb_head tokens =
     head_with (is_name_in (kind_at tokens (name_order tokens))) (is_mark_at tokens (length tokens - 2) Mark.Assign) (name_order tokens)
     (length tokens)
 
--- The findings about the header: the verb behind `=` is none, or there are 255 verbs; or a word is one of a verb's already, or comes
--- twice.
+-- The findings about the header: the verb behind `=` is none, or there are 255 verbs; or a word is one of a verb's already, or comes twice.
 abbrev pub verb_by : Option DictionaryWord → Out → Option ℕ
 verb_by None o = None
 verb_by (Some word) o = verb_of word.text o.tables.dictionary.list
@@ -187,21 +186,18 @@ verb_header limits context first w = verb_header_with limits context first (verb
 
 -- The header of `Extend`: the word behind that of the verb says where further lines go.
 abbrev pub place_named : List ℕ → LinePlace
-place_named name =
-    if str_eq_ignore_ascii_case name (codes "first") then LinePlace.First else
+place_named name = if str_eq_ignore_ascii_case name (codes "first") then LinePlace.First else
     if str_eq_ignore_ascii_case name (codes "replace") then LinePlace.Replace else LinePlace.Last
 
 abbrev pub lines_extended : ℕ → LinePlace → Code
-lines_extended number place o =
-    if has_verb number o then with_verbs (with_extended number place o.tables.verbs) o else o
+lines_extended number place o = if has_verb number o then with_verbs (with_extended number place o.tables.verbs) o else o
 
 abbrev pub verb_extended : Limits → Option ℕ → LinePlace → Option DictionaryWord → Code
 verb_extended limits None place word o = o
 verb_extended limits (Some number) place word o = lines_extended number place (word_used limits word (WordUse.Verb number) o)
 
 abbrev pub extend_with : Limits → Context → Place → ℕ → Option ℕ → LinePlace → Compilation → Compilation
-extend_with limits context first at number place w =
-    verb_ended limits context first (no_verb_finding at number)
+extend_with limits context first at number place w = verb_ended limits context first (no_verb_finding at number)
     (record w { extending = lines_of number place; output = verb_extended limits number place (word_at w.unit.tokens at) w.output })
 
 abbrev pub extend_header : Limits → Context → Place → Compilation → Compilation
@@ -212,8 +208,7 @@ extend_header limits context first w =
 -- Definitions of findings about a line
 
 abbrev pub noun_named : List ℕ → Option Noun
-noun_named name =
-    if str_eq_ignore_ascii_case name (codes "noun") then Some Noun.Noun else
+noun_named name = if str_eq_ignore_ascii_case name (codes "noun") then Some Noun.Noun else
     if str_eq_ignore_ascii_case name (codes "held") then Some Noun.Held else
     if str_eq_ignore_ascii_case name (codes "multi") then Some Noun.Multi else
     if str_eq_ignore_ascii_case name (codes "multiheld") then Some Noun.MultiHeld else
@@ -254,8 +249,7 @@ abbrev pub named_behind : List ℕ → Named
 named_behind word = if is_filter_word word then Named.Filter else Named.Scope
 
 abbrev pub named_at : List SourceToken → ℕ → Named
-named_at tokens at =
-    if is_mark_at tokens (next_place at) Mark.Assign then Named.Sign else
+named_at tokens at = if is_mark_at tokens (next_place at) Mark.Assign then Named.Sign else
     if is_mark_at tokens (at - 1) Mark.Assign then named_behind (bytes_at tokens (at - 2)) else Named.Alone
 
 abbrev pub is_lone_name : Option Noun → Found Place → Bool

@@ -173,7 +173,6 @@ fn token_finding<B: Bounds>(
     }
 }
 
-/// Returns the least of the findings about the tokens of a line before a place.
 fn tokens_finding<B: Bounds>(
     end: usize,
     tokens: &UnitTokens,
@@ -413,8 +412,7 @@ fn keep_line<B: Bounds>(
     }
 }
 
-/// Adds the action behind the arrow, which appears there, to the tokens `line`, and keeps all as a line of the verb
-/// whose lines are read.
+/// Adds the action behind the arrow, which appears there, to the tokens `line`, and keeps all as a line of the verb whose lines are read.
 fn add_behind<B: Bounds>(
     extending: Extending,
     tokens: &UnitTokens,
@@ -510,7 +508,6 @@ pub fn end_line<B: Bounds>(
     judge_line(compilation, context, first, arrow)
 }
 
-/// Returns whether a name is a noun of the language at its place in a line. Each other one is a name of the source.
 fn is_noun(named: Named, name: &[u8]) -> bool
     ensures { result ≡ is_noun named name.now }
 {
@@ -551,7 +548,6 @@ fn bring_last(unit: &mut Unit, settings: &Settings) -> Result<bool, AllocError>
     }
 }
 
-/// Returns the finding about the last token of a line, with which the word before a sign is looked at again.
 fn last_finding<B: Bounds>(unit: &Unit, names: &Symbols<Place, B>) -> Option<Finding>
     ensures { result ≡ last_finding (unit_of unit.now) names.now }
 {

@@ -67,7 +67,6 @@ fn is_name_in(kind: Option<TokenKind>) -> bool
     matches!(kind, Some(TokenKind::Name))
 }
 
-/// Returns the word of the dictionary of a token, if it has one.
 fn word_in(kind: Option<TokenKind>) -> Option<DictionaryWord>
     ensures { result ≡ word_in kind }
 {
@@ -84,7 +83,6 @@ pub(crate) fn word_at(tokens: &UnitTokens, at: usize) -> Option<DictionaryWord>
     word_in(tokens.kind(at))
 }
 
-/// Returns the findings about a unit of a verb: a limit that it passes is that of verbs.
 fn verb_findings(found: Option<Finding>) -> Findings
     ensures { found_as result ≡ verb_findings found }
 {
@@ -106,7 +104,6 @@ fn fake_findings(again: Option<Again>) -> Findings
     }
 }
 
-/// Returns the finding that the word at a place should, or should not, be one of a verb.
 fn wrong_verb(at: usize) -> Finding
     ensures { result ≡ wrong_verb at }
 {
@@ -200,8 +197,7 @@ pub(crate) fn has_verb<B: Bounds>(number: u8, out: &Output<B>) -> bool
     (number as usize) < out.tables.verbs.len()
 }
 
-/// Returns the finding about the verb that gets words: the word behind a sign is no verb's, or there are too many verbs
-/// for another one.
+/// Returns the finding about the verb that gets words: the word behind a sign is no verb's, or there are too many verbs for another one.
 fn like_finding<B: Bounds>(
     like: Option<usize>,
     tokens: &UnitTokens,
@@ -281,8 +277,7 @@ fn head_finding<B: Bounds>(
     Ok(least_of_both(like_finding(head.like, tokens, out), of_words))
 }
 
-/// Passes `limit`, where there would be more verbs or lines than it allows. Nobody asks any more which verb words are
-/// of.
+/// Passes `limit`, where there would be more verbs or lines than it allows. Nobody asks any more which verb words are of.
 fn pass_verb<B: Bounds>(limit: Setting, out: &mut Output<B>) -> Opened
     ensures { (out.new, result) ≡ verb_passed B.most limit out.old }
 {
@@ -329,7 +324,6 @@ fn begin_verb<B: Bounds>(
     }
 }
 
-/// Returns the use of a word of a verb.
 fn verb_use(number: u8, is_meta: bool) -> WordUse
     ensures { result ≡ verb_use number is_meta }
 {
@@ -413,7 +407,6 @@ fn open_verb<B: Bounds>(
     Ok(opened.lines)
 }
 
-/// Returns the place where further lines go, by the word behind that of `Extend`.
 fn place_named(name: &[u8]) -> LinePlace
     ensures { result ≡ place_named name.now }
 {

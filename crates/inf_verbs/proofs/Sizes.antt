@@ -164,8 +164,7 @@ pub told_last : (first rest more : List LineOf)
     → lines_of (fold (λ v line. with_line LinePlace.Last line v) (record { first = first; rest = rest }) more) ≡ (first ++ rest) ++ more
 told_last first rest [] = sym (append-nil (first ++ rest))
 told_last first rest (line ∷ more) = told_last first (rest ++ line ∷ []) more
-    ∙ ap (λ ls. ls ++ more) (sym (append_assoc first rest (line ∷ [])))
-    ∙ append_assoc (first ++ rest) (line ∷ []) more
+    ∙ ap (λ ls. ls ++ more) (sym (append_assoc first rest (line ∷ []))) ∙ append_assoc (first ++ rest) (line ∷ []) more
 
 pub told_replace : (first rest more : List LineOf)
     → lines_of (fold (λ v line. with_line LinePlace.Replace line v) (record { first = first; rest = rest }) more) ≡ (first ++ rest) ++ more
@@ -212,8 +211,7 @@ more_line {f} {g} m xs n how line old new within is_old is_new =
 
 -- verbs of which one has other lines
 other_lines : {f : LineOf → ℕ} {g : VerbOf → ℕ} {k : ℕ} → IsMeasured f g k → (xs : List VerbOf) (n : ℕ) (old new : VerbOf)
-    → n < length xs → old ≡ get_or xs n old
-    → sum_of g xs - sum_of f (lines_of old) + sum_of f (lines_of new) ≡ sum_of g (set xs n new)
+    → n < length xs → old ≡ get_or xs n old → sum_of g xs - sum_of f (lines_of old) + sum_of f (lines_of new) ≡ sum_of g (set xs n new)
 other_lines {f} {g} m xs n old new within is_old =
     let all = sum_of-set g xs n new old within in
     let lines = λ (v : VerbOf). sum_of f (lines_of v) in
@@ -242,8 +240,7 @@ same_at (x ∷ xs) (suc n) a b within is_a is_b = same_at xs n a b (omega (arith
 pub extended_stands : (xs : List VerbOf) (n : ℕ) (how : LinePlace) (old again changed new : VerbOf) (size later limit space : ℕ)
     → n < length xs → old ≡ get_or xs n old → again ≡ get_or xs n again → changed ≡ extended how again
     → new ≡ get_or (set xs n changed) n new → size ≡ verbs_size xs → later ≡ verbs_laters xs → length xs ≤ 255 → length xs ≤ limit → size ≤
-    space
-    → (size - lines_size (lines_of old) + lines_size (lines_of new) ≡ verbs_size (set xs n changed))
+    space → (size - lines_size (lines_of old) + lines_size (lines_of new) ≡ verbs_size (set xs n changed))
     × (later - lines_prepositions (lines_of old) + lines_prepositions (lines_of new) ≡ verbs_laters (set xs n changed))
     × (length (set xs n changed) ≤ 255) × (length (set xs n changed) ≤ limit)
     × (size - lines_size (lines_of old) + lines_size (lines_of new) ≤ space)

@@ -73,8 +73,7 @@ verb_laters verb = 1 + lines_prepositions (lines_of verb)
 abbrev pub verbs_laters : List VerbOf → ℕ
 verbs_laters verbs = sum_of verb_laters verbs
 
--- the reason why another verb cannot be added: there are 255, or as many as there may be, or the grammar would have more bytes than it
--- may
+-- the reason why another verb cannot be added: there are 255, or as many as there may be, or the grammar would have more bytes than it may
 abbrev pub add_fault : Limits → AllVerbs → Option VerbFault
 add_fault limits verbs =
     if nat_le 255 (length verbs.list) then Some VerbFault.TooMany

@@ -76,8 +76,7 @@ fn noun_number(noun: Noun) -> u16
 }
 
 impl LineToken {
-    /// Returns the byte that tells the type of the token: the low bits its kind, the others whether alternatives come
-    /// before and behind it.
+    /// Returns the byte that tells the type of the token: the low bits its kind, the others whether alternatives come before and behind it.
     fn type_byte(self) -> u8
         ensures { result ≡ token_type self }
     {
@@ -114,7 +113,6 @@ impl LineToken {
     }
 }
 
-/// Returns the number of `tokens` that are prepositions.
 pub(crate) fn prepositions(tokens: &[LineToken]) -> usize
     ensures value { result ≡ prepositions tokens.now }
     ensures few { result ≤ length tokens.now }

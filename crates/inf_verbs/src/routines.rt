@@ -59,8 +59,7 @@ impl<B: Bounds> Model for Actions<B> {
 }
 
 impl<B: Bounds> Actions<B> {
-    /// Returns a set without actions, which takes `limit` actions at most, beside fake ones. It takes no memory until
-    /// the first one comes.
+    /// Returns a set without actions, which takes `limit` actions at most, beside fake ones. It takes no memory until the first one comes.
     pub fn new(alloc: Global, limit: usize) -> Actions<B>
         requires { limit ≡ B.most Setting.Actions }
         ensures { result ≡ record { routines = []; fakes = 0 } }
@@ -74,8 +73,7 @@ impl<B: Bounds> Actions<B> {
         }
     }
 
-    /// Returns the number of actions, without fake ones, which is never more than there may be; as many fixups are
-    /// written.
+    /// Returns the number of actions, without fake ones, which is never more than there may be; as many fixups are written.
     pub fn len(&self) -> usize
         ensures value { result ≡ length self.now.routines }
         ensures limited { result ≤ B.most Setting.Actions }
@@ -91,8 +89,7 @@ impl<B: Bounds> Actions<B> {
         Some((place % 65536) as u16)
     }
 
-    /// Adds the action with this routine where it is new, and returns its number, modulo 65536, which counts the
-    /// actions before it.
+    /// Adds the action with this routine where it is new, and returns its number, modulo 65536, which counts the actions before it.
     ///
     /// Returns an error where the action is new: `Full` where there are as many as there may be, else `Memory` where no
     /// memory is left. All actions then stay as they were.
@@ -121,8 +118,7 @@ impl<B: Bounds> Actions<B> {
         number
     }
 
-    /// Appends a place for the packed address of each action's routine to the area of actions, and their fixups to
-    /// `refs`.
+    /// Appends a place for the packed address of each action's routine to the area of actions, and their fixups to `refs`.
     ///
     /// Returns an error, the first that applies: `Full` where there would be more fixups than there may be, `Memory`
     /// where no memory is left. Area and fixups then stay as they were.
@@ -133,8 +129,7 @@ impl<B: Bounds> Actions<B> {
         ensures room { OnOk result (length refs.old.list + length self.now.routines ≤ refs.old.limit) }
         ensures bytes_stay { OnErr result (A.bytes area.new ≡ A.bytes area.old) }
         ensures fixups_stay { OnErr result (refs.new ≡ refs.old) }
-        ensures full { IfErr result (λ fault. fault ≡ WriteFault.Full
-            → refs.old.limit < length refs.old.list + length self.now.routines) }
+        ensures full { IfErr result (λ fault. fault ≡ WriteFault.Full → refs.old.limit < length refs.old.list + length self.now.routines) }
         ensures memory { IfErr result (λ fault. fault ≡ WriteFault.Memory
             → length refs.old.list + length self.now.routines ≤ refs.old.limit) }
     {
@@ -189,8 +184,7 @@ impl ParsingRoutines {
         Ok((before % 65536) as u16)
     }
 
-    /// Appends a place for the packed address of each routine to the area of parsing routines, and their fixups to
-    /// `refs`.
+    /// Appends a place for the packed address of each routine to the area of parsing routines, and their fixups to `refs`.
     ///
     /// Returns an error, the first that applies: `Full` where there would be more fixups than there may be, `Memory`
     /// where no memory is left. Area and fixups then stay as they were.

@@ -30,7 +30,7 @@ pub enum LinePlace {
 }
 
 /// The reason why a verb was not added.
-#[derive(Clone, Copy)]
+#[derive(Clone, Copy, Debug)]
 pub enum VerbFault {
     /// There are 255 verbs.
     TooMany,
@@ -95,8 +95,7 @@ impl<B: Bounds> Model for Verbs<B> {
 }
 
 impl<B: Bounds> Verbs<B> {
-    /// Returns a grammar without verbs, which takes at most `limit` verbs and `space` bytes. It takes no memory until
-    /// the first verb comes.
+    /// Returns a grammar without verbs, which takes at most `limit` verbs and `space` bytes. It takes no memory until the first verb comes.
     pub fn new(alloc: Global, limit: usize, space: usize) -> Verbs<B>
         requires verbs { limit ≡ B.most Setting.Verbs }
         requires bytes { space ≡ B.most Setting.GrammarLines }

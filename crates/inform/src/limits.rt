@@ -34,8 +34,7 @@ pub struct Limits {
     file_size: u64,
 }
 
-/// Returns the limit of this run by the lines of `told`, in the one that begins with `name`; the greatest number where
-/// there is none.
+/// Returns the limit of this run by the lines of `told`, in the one that begins with `name`; the greatest number where there is none.
 fn limit_in(told: &str, name: &str) -> u64 {
     for line in told.lines() {
         if let Some(numbers) = line.strip_prefix(name) {
@@ -60,8 +59,7 @@ impl Limits {
         }
     }
 
-    /// Returns the number of bytes by which the file of this name may grow. No limit holds for one that is no regular
-    /// file.
+    /// Returns the number of bytes by which the file of this name may grow. No limit holds for one that is no regular file.
     pub fn room_behind<R: Files>(self, rt: &R, name: &str) -> u64 {
         match fs::metadata(rt, name) {
             Ok(metadata) if metadata.is_file() => self.file_size.saturating_sub(metadata.len()),
@@ -78,9 +76,8 @@ impl Limits {
     }
 }
 
-/// Lets the stack grow as far as a run needs, before other memory is asked for: where none is left later, the system
-/// ends a program whose stack has to grow. Refused where the limit on the stack, or the memory that is left, does not
-/// suffice for it.
+/// Lets the stack grow as far as a run needs, before other memory is asked for: where none is left later, the system ends a program whose
+/// stack has to grow. Refused where the limit on the stack, or the memory that is left, does not suffice for it.
 ///
 /// Returns how names are hashed: by bytes that no source can know, where the system gives some.
 pub fn grow_stack<R: RandomSource + AllocGlobal>(

@@ -24,8 +24,7 @@ impl Reason {
         Reason { kind, number: None }
     }
 
-    /// Returns the reason of a device's last failure: the limit on the size of its file where it `is_full`, or else
-    /// that of its `trouble`.
+    /// Returns the reason of a device's last failure: the limit on the size of its file where it `is_full`, or else that of its `trouble`.
     pub fn of_trouble(is_full: bool, trouble: &Trouble) -> Reason {
         if is_full {
             return Reason::of_kind(ErrorKind::FileTooLarge);

@@ -7,7 +7,7 @@ use std::alloc::AllocError;
 use std::test::Fail;
 
 /// A call.
-#[derive(Clone, Copy)]
+#[derive(Clone, Copy, Debug)]
 pub enum Call {
     Directive,
     Header,
@@ -23,7 +23,7 @@ pub enum Call {
 }
 
 /// The answer to a call.
-#[derive(Clone, Copy)]
+#[derive(Clone, Copy, Debug, PartialEq, Eq)]
 pub enum Answer {
     Done,
     Left(Option<Simple>),

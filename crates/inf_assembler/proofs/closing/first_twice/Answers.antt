@@ -13,9 +13,7 @@ nothing = record { place = 0; what = Special.Marks (record { number = 0 }) }
 
 pub loop-entry-preserved : goal.loop-entry-preserved
 loop-entry-preserved c =
-    let kept = c.args.kept.now in
-    let i = c.loop-entry.entry-index in
-    let entry = get_or kept i nothing in
+    let kept = c.args.kept.now in let i = c.loop-entry.entry-index in let entry = get_or kept i nothing in
     let now = c.loop-entry.invariant in
     let place : (n : ℕ) → kept_place nowhere 0 (take (i + 1) kept) n ≡ first_of (kept_place nowhere 0 (take i kept) n)
     (cond (marks n entry.what) (Some (entry.place - 0)) None) =

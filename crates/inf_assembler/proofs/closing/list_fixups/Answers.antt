@@ -13,11 +13,8 @@ nothing = record { place = 0; what = Special.Marks (record { number = 0 }) }
 
 pub returns-in_err-add-clause-full : goal.returns-in_err-add-clause-full
 returns-in_err-add-clause-full c =
-    let kept = c.args.kept.now in
-    let i = c.loop-entry.entry-index in
-    let entry = get_or kept i nothing in
-    let long = found c.args.long.now in
-    let now = c.loop-entry.invariant in
+    let kept = c.args.kept.now in let i = c.loop-entry.entry-index in let entry = get_or kept i nothing in
+    let long = found c.args.long.now in let now = c.loop-entry.invariant in
     let here = fixup_at (entry.place - c.loop-entry.saved) entry.what in
     let rest = kept_fixups long (c.loop-entry.saved + saving long entry) (drop (i + 1) kept) in
     let one : length here ≡ 1 = ap (λ what. length (fixup_at (entry.place - c.loop-entry.saved) what)) c.in-Refers.is in
@@ -37,14 +34,9 @@ returns-in_err-add-clause-full c =
 
 pub loop-entry-preserved : goal.loop-entry-preserved
 loop-entry-preserved c =
-    let kept = c.args.kept.now in
-    let i = c.loop-entry.entry-index in
-    let entry = get_or kept i nothing in
-    let long = found c.args.long.now in
-    let now = c.loop-entry.invariant in
-    let saved = c.loop-entry.saved in
-    let list = c.loop-entry.refs.list in
-    let rest = kept_fixups long (saved + saving long entry) (drop (i + 1) kept) in
+    let kept = c.args.kept.now in let i = c.loop-entry.entry-index in let entry = get_or kept i nothing in
+    let long = found c.args.long.now in let now = c.loop-entry.invariant in let saved = c.loop-entry.saved in
+    let list = c.loop-entry.refs.list in let rest = kept_fixups long (saved + saving long entry) (drop (i + 1) kept) in
     let next : kept_fixups long (saved + c.saving-saved.result) (drop (i + 1) kept) ≡ rest =
     ap (λ k. kept_fixups long (saved + k) (drop (i + 1) kept)) c.saving-saved.ensures.value in
     let left = ap (λ hs. list ++ hs) (sym (fixups_step long saved i kept nothing c.loop-entry-test.true)) ∙ now.left in

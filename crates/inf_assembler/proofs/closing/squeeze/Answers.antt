@@ -32,8 +32,7 @@ place_bytes-requires-clause-within g c =
 
 pub place_bytes-requires-clause-room : goal.place_bytes-requires-clause-room
 place_bytes-requires-clause-room g c =
-    let entry = get_or c.args.kept.now c.loop-entry.entry-index nothing in
-    let now = c.loop-entry.invariant in
+    let entry = get_or c.args.kept.now c.loop-entry.entry-index nothing in let now = c.loop-entry.invariant in
     let order = order_step c.loop-entry.from c.loop-entry.entry-index (length (g.A.Area.bytes c.args.area.now)) c.args.kept.now nothing
     c.loop-entry-test.true now.order in
     let size = closed_size (found c.args.long.now) (found c.args.places.now) entry.place _ entry.what _ c.in_ok-bytes.ensures in
@@ -42,8 +41,7 @@ place_bytes-requires-clause-room g c =
 
 pub overflow_add-to : goal.overflow_add-to
 overflow_add-to g c =
-    let entry = get_or c.args.kept.now c.loop-entry.entry-index nothing in
-    let now = c.loop-entry.invariant in
+    let entry = get_or c.args.kept.now c.loop-entry.entry-index nothing in let now = c.loop-entry.invariant in
     let order = order_step c.loop-entry.from c.loop-entry.entry-index (length (g.A.Area.bytes c.args.area.now)) c.args.kept.now nothing
     c.loop-entry-test.true now.order in
     let size = closed_size (found c.args.long.now) (found c.args.places.now) entry.place _ entry.what _ c.in_ok-bytes.ensures in
@@ -59,20 +57,13 @@ overflow_add-from g c =
 
 pub loop-entry-preserved : goal.loop-entry-preserved
 loop-entry-preserved g c =
-    let kept = c.args.kept.now in
-    let i = c.loop-entry.entry-index in
-    let entry = get_or kept i nothing in
+    let kept = c.args.kept.now in let i = c.loop-entry.entry-index in let entry = get_or kept i nothing in
     let now = c.loop-entry.invariant in
     let order = order_step c.loop-entry.from i (length (g.A.Area.bytes c.args.area.now)) kept nothing c.loop-entry-test.true now.order in
     let size = closed_size (found c.args.long.now) (found c.args.places.now) entry.place _ entry.what _ c.in_ok-bytes.ensures in
-    let small = size_le (found c.args.long.now) entry.place entry.what in
-    let to = c.loop-entry.to in
-    let from = c.loop-entry.from in
-    let n = entry.place - from in
-    let xs = g.A.Area.bytes c.loop-entry.area in
-    let added = c.as_slice.result.now in
-    let items = c.in_ok-bytes.bytes.items in
-    let same = c.as_slice.ensures.value in
+    let small = size_le (found c.args.long.now) entry.place entry.what in let to = c.loop-entry.to in
+    let from = c.loop-entry.from in let n = entry.place - from in let xs = g.A.Area.bytes c.loop-entry.area in
+    let added = c.as_slice.result.now in let items = c.in_ok-bytes.bytes.items in let same = c.as_slice.ensures.value in
     let within : from + n ≤ length xs = omega (arith, order.0, order.2, now.long) in
     let room : to + n + length added ≤ length xs = omega (arith, now.ordered, order.0, order.2, now.long, size, small, ap length same) in
     record {
@@ -90,6 +81,5 @@ loop-entry-preserved g c =
           ∙ ap (squeezed (found c.args.long.now) (found c.args.places.now) (entry.place + special_size entry.what) (to + n + length items)
           (drop (i + 1) kept)) (c.place_bytes.ensures ∙ ap (λ ys. placed_bytes to from n ys xs) same)
           ∙ sym (squeezed_step (found c.args.long.now) (found c.args.places.now) from to i kept nothing xs items c.loop-entry-test.true
-          c.in_ok-bytes.ensures)
-          ∙ now.left;
+          c.in_ok-bytes.ensures) ∙ now.left;
     }

@@ -5,9 +5,7 @@ use Rattle.inf_assembler.proofs.closing.squeeze.Given as goal
 -- the entries that are left lead from the bytes so far to those of all
 abbrev pub invariant-loop-entry : goal.invariant-loop-entry
 invariant-loop-entry g l =
-    let old = g.A.Area.bytes l.fn.area in
-    let bytes = g.A.Area.bytes l.area in
-    let left = drop l.entry-index l.kept in
+    let old = g.A.Area.bytes l.fn.area in let bytes = g.A.Area.bytes l.area in let left = drop l.entry-index l.kept in
     record {
       ordered : l.to ≤ l.from;
       behind : l.start ≤ l.to;

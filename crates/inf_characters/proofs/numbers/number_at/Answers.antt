@@ -6,11 +6,8 @@ use Rattle.inf_characters.proofs.numbers.number_at.Goals as goal
 
 pub loop-count-preserved : goal.loop-count-preserved
 loop-count-preserved c =
-    let h = c.loop-count.invariant in
-    let base = c.args.base in
-    let bytes = c.args.bytes.now in
-    let count = c.loop-count.count in
-    let digit = c.in-Some.digit in
+    let h = c.loop-count.invariant in let base = c.args.base in let bytes = c.args.bytes.now in
+    let count = c.loop-count.count in let digit = c.in-Some.digit in
     let next = at_drop_more (number_from base count h.high) bytes count 0 c.loop-count-test.true in
     record {
       high = base * h.high + digit;

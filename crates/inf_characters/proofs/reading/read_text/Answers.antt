@@ -36,8 +36,7 @@ returns-in_err-piece c =
 
 pub loop-first-preserved : goal.loop-first-preserved
 loop-first-preserved c =
-    let piece = c.in_ok-piece.piece in
-    let tail = c.in-Some.tail.now in
+    let piece = c.in_ok-piece.piece in let tail = c.in-Some.tail.now in
     Continues-more c.args.set c.args.mode c.loop-first.after_mark c.loop-first.items.items c.loop-first.rest.now c.args.bytes.now
     c.in-Some.first.now tail piece _ _
     c.in-Some.ensures.cases.0 (sym c.in_ok-piece.ensures.value) c.in_ok-push_times.ensures.ok c.in_ok-piece.ensures.piece
@@ -56,8 +55,7 @@ returns-in_err-push_characters c =
 
 pub loop-first-preserved-then-len-gt0 : goal.loop-first-preserved-then-len-gt0
 loop-first-preserved-then-len-gt0 c =
-    let rest = c.loop-first.rest.now in
-    let len = c.run_len-len.result in
+    let rest = c.loop-first.rest.now in let len = c.run_len-len.result in
     Continues-run c.args.set c.args.mode c.args.bytes.now c.loop-first.after_mark c.loop-first.items.items rest len _ _
     c.run_len-len.ensures.value (omega arith) c.in_ok-push_characters.ensures.ok
     (take_all (length rest - len) (drop len rest) (omega (arith, length-drop len rest))) c.loop-first.invariant

@@ -16,15 +16,9 @@ use Rattle.inf_compile.proofs.compile.compile.Goals as goal
 
 pub returns-then-names_nothing-clause-headline : goal.returns-then-names_nothing-clause-headline
 returns-then-names_nothing-clause-headline g c = λ honest.
-    let files = g.F.Files in
-    let options = c.args.options.now in
-    let s = files.sources c.args.files.now in
-    let o = chosen_by s options in
-    let word = options.source in
-    let name = source_name word in
-    let date = c.args.date in
-    let before = g.M.Sink.taken c.args.messages.now in
-    let story_old = g.S.Sink.taken c.args.story.now in
+    let files = g.F.Files in let options = c.args.options.now in let s = files.sources c.args.files.now in
+    let o = chosen_by s options in let word = options.source in let name = source_name word in let date = c.args.date in
+    let before = g.M.Sink.taken c.args.messages.now in let story_old = g.S.Sink.taken c.args.story.now in
     let after = g.M.Sink.taken c.refuse.new.messages in
     let none = sym c.names_nothing.ensures ∙ c.if-names_nothing.true in
     IfOk-weaker c.refuse.result (λ r. (r ≡ Status.Errors) × Takes before after (missing (codes ".inf")).messages)
@@ -36,15 +30,9 @@ returns-then-names_nothing-clause-opened g c = λ honest. on_err c.refuse.result
 
 pub returns-then-names_nothing-clause-begins : goal.returns-then-names_nothing-clause-begins
 returns-then-names_nothing-clause-begins g c = λ honest.
-    let files = g.F.Files in
-    let options = c.args.options.now in
-    let s = files.sources c.args.files.now in
-    let o = chosen_by s options in
-    let word = options.source in
-    let name = source_name word in
-    let date = c.args.date in
-    let before = g.M.Sink.taken c.args.messages.now in
-    let story_old = g.S.Sink.taken c.args.story.now in
+    let files = g.F.Files in let options = c.args.options.now in let s = files.sources c.args.files.now in
+    let o = chosen_by s options in let word = options.source in let name = source_name word in let date = c.args.date in
+    let before = g.M.Sink.taken c.args.messages.now in let story_old = g.S.Sink.taken c.args.story.now in
     let after = g.M.Sink.taken c.refuse.new.messages in
     let none = sym c.names_nothing.ensures ∙ c.if-names_nothing.true in
     on_err_weaker c.refuse.result (λ k. refused_begins word date s o before after none k) c.refuse.ensures.err
@@ -72,18 +60,11 @@ returns-then-names_nothing-clause-untouched g c =
 
 pub returns-clause-headline : goal.returns-clause-headline
 returns-clause-headline g c = λ honest.
-    let files = g.F.Files in
-    let options = c.args.options.now in
-    let s = files.sources c.args.files.now in
-    let o = chosen_by s options in
-    let word = options.source in
-    let name = source_name word in
-    let date = c.args.date in
-    let before = g.M.Sink.taken c.args.messages.now in
-    let story_old = g.S.Sink.taken c.args.story.now in
+    let files = g.F.Files in let options = c.args.options.now in let s = files.sources c.args.files.now in
+    let o = chosen_by s options in let word = options.source in let name = source_name word in let date = c.args.date in
+    let before = g.M.Sink.taken c.args.messages.now in let story_old = g.S.Sink.taken c.args.story.now in
     let after = g.M.Sink.taken c.compile_named.new.messages in
-    let story_new = g.S.Sink.taken c.compile_named.new.story in
-    let old = files.openings c.args.files.now in
+    let story_new = g.S.Sink.taken c.compile_named.new.story in let old = files.openings c.args.files.now in
     let new = files.openings c.compile_named.new.files in
     let some = sym c.names_nothing.ensures ∙ c.if-names_nothing.false in
     all_named (λ (x : Sources). IfOk c.compile_named.result (λ r. Compiles x o date name r before after story_old story_new)) word s some
@@ -91,18 +72,11 @@ returns-clause-headline g c = λ honest.
 
 pub returns-clause-once : goal.returns-clause-once
 returns-clause-once g c = λ honest.
-    let files = g.F.Files in
-    let options = c.args.options.now in
-    let s = files.sources c.args.files.now in
-    let o = chosen_by s options in
-    let word = options.source in
-    let name = source_name word in
-    let date = c.args.date in
-    let before = g.M.Sink.taken c.args.messages.now in
-    let story_old = g.S.Sink.taken c.args.story.now in
+    let files = g.F.Files in let options = c.args.options.now in let s = files.sources c.args.files.now in
+    let o = chosen_by s options in let word = options.source in let name = source_name word in let date = c.args.date in
+    let before = g.M.Sink.taken c.args.messages.now in let story_old = g.S.Sink.taken c.args.story.now in
     let after = g.M.Sink.taken c.compile_named.new.messages in
-    let story_new = g.S.Sink.taken c.compile_named.new.story in
-    let old = files.openings c.args.files.now in
+    let story_new = g.S.Sink.taken c.compile_named.new.story in let old = files.openings c.args.files.now in
     let new = files.openings c.compile_named.new.files in
     let some = sym c.names_nothing.ensures ∙ c.if-names_nothing.false in
     all_named (λ (x : Sources). OnOk c.compile_named.result (OpenedBy (x name) x o name old new)) word s some
@@ -110,18 +84,11 @@ returns-clause-once g c = λ honest.
 
 pub returns-clause-opened : goal.returns-clause-opened
 returns-clause-opened g c = λ honest.
-    let files = g.F.Files in
-    let options = c.args.options.now in
-    let s = files.sources c.args.files.now in
-    let o = chosen_by s options in
-    let word = options.source in
-    let name = source_name word in
-    let date = c.args.date in
-    let before = g.M.Sink.taken c.args.messages.now in
-    let story_old = g.S.Sink.taken c.args.story.now in
+    let files = g.F.Files in let options = c.args.options.now in let s = files.sources c.args.files.now in
+    let o = chosen_by s options in let word = options.source in let name = source_name word in let date = c.args.date in
+    let before = g.M.Sink.taken c.args.messages.now in let story_old = g.S.Sink.taken c.args.story.now in
     let after = g.M.Sink.taken c.compile_named.new.messages in
-    let story_new = g.S.Sink.taken c.compile_named.new.story in
-    let old = files.openings c.args.files.now in
+    let story_new = g.S.Sink.taken c.compile_named.new.story in let old = files.openings c.args.files.now in
     let new = files.openings c.compile_named.new.files in
     let some = sym c.names_nothing.ensures ∙ c.if-names_nothing.false in
     all_named (λ (x : Sources). OnErr c.compile_named.result (OpenedPart x o name old new)) word s some
@@ -129,18 +96,11 @@ returns-clause-opened g c = λ honest.
 
 pub returns-clause-begins : goal.returns-clause-begins
 returns-clause-begins g c = λ honest.
-    let files = g.F.Files in
-    let options = c.args.options.now in
-    let s = files.sources c.args.files.now in
-    let o = chosen_by s options in
-    let word = options.source in
-    let name = source_name word in
-    let date = c.args.date in
-    let before = g.M.Sink.taken c.args.messages.now in
-    let story_old = g.S.Sink.taken c.args.story.now in
+    let files = g.F.Files in let options = c.args.options.now in let s = files.sources c.args.files.now in
+    let o = chosen_by s options in let word = options.source in let name = source_name word in let date = c.args.date in
+    let before = g.M.Sink.taken c.args.messages.now in let story_old = g.S.Sink.taken c.args.story.now in
     let after = g.M.Sink.taken c.compile_named.new.messages in
-    let story_new = g.S.Sink.taken c.compile_named.new.story in
-    let old = files.openings c.args.files.now in
+    let story_new = g.S.Sink.taken c.compile_named.new.story in let old = files.openings c.args.files.now in
     let new = files.openings c.compile_named.new.files in
     let some = sym c.names_nothing.ensures ∙ c.if-names_nothing.false in
     all_named (λ (x : Sources). OnErr c.compile_named.result (Begins x o date name before after)) word s some
@@ -148,39 +108,24 @@ returns-clause-begins g c = λ honest.
 
 pub returns-clause-heard : goal.returns-clause-heard
 returns-clause-heard g c = λ honest.
-    let files = g.F.Files in
-    let options = c.args.options.now in
-    let s = files.sources c.args.files.now in
-    let o = chosen_by s options in
-    let word = options.source in
-    let name = source_name word in
-    let date = c.args.date in
-    let before = g.M.Sink.taken c.args.messages.now in
-    let story_old = g.S.Sink.taken c.args.story.now in
+    let files = g.F.Files in let options = c.args.options.now in let s = files.sources c.args.files.now in
+    let o = chosen_by s options in let word = options.source in let name = source_name word in let date = c.args.date in
+    let before = g.M.Sink.taken c.args.messages.now in let story_old = g.S.Sink.taken c.args.story.now in
     let after = g.M.Sink.taken c.compile_named.new.messages in
-    let story_new = g.S.Sink.taken c.compile_named.new.story in
-    let old = files.openings c.args.files.now in
+    let story_new = g.S.Sink.taken c.compile_named.new.story in let old = files.openings c.args.files.now in
     let new = files.openings c.compile_named.new.files in
     let some = sym c.names_nothing.ensures ∙ c.if-names_nothing.false in
     all_named (λ (x : Sources). IfErr c.compile_named.result
     (λ fault. IfRead fault (λ told. Heard (Rose (files.faults c.args.files.now) (files.faults c.compile_named.new.files)) x o name old
-    new before after told)))
-    word s some (c.compile_named.ensures.heard honest)
+    new before after told))) word s some (c.compile_named.ensures.heard honest)
 
 pub returns-clause-part : goal.returns-clause-part
 returns-clause-part g c = λ honest.
-    let files = g.F.Files in
-    let options = c.args.options.now in
-    let s = files.sources c.args.files.now in
-    let o = chosen_by s options in
-    let word = options.source in
-    let name = source_name word in
-    let date = c.args.date in
-    let before = g.M.Sink.taken c.args.messages.now in
-    let story_old = g.S.Sink.taken c.args.story.now in
+    let files = g.F.Files in let options = c.args.options.now in let s = files.sources c.args.files.now in
+    let o = chosen_by s options in let word = options.source in let name = source_name word in let date = c.args.date in
+    let before = g.M.Sink.taken c.args.messages.now in let story_old = g.S.Sink.taken c.args.story.now in
     let after = g.M.Sink.taken c.compile_named.new.messages in
-    let story_new = g.S.Sink.taken c.compile_named.new.story in
-    let old = files.openings c.args.files.now in
+    let story_new = g.S.Sink.taken c.compile_named.new.story in let old = files.openings c.args.files.now in
     let new = files.openings c.compile_named.new.files in
     let some = sym c.names_nothing.ensures ∙ c.if-names_nothing.false in
     all_named (λ (x : Sources). IfErr c.compile_named.result
@@ -189,39 +134,25 @@ returns-clause-part g c = λ honest.
 
 pub returns-then-names_nothing-clause-seen : goal.returns-then-names_nothing-clause-seen
 returns-then-names_nothing-clause-seen g c =
-    let faults = g.F.Files.faults c.args.files.now in
-    tells_none c.refuse.result faults faults refl
+    let faults = g.F.Files.faults c.args.files.now in tells_none c.refuse.result faults faults refl
 
 pub returns-clause-early : goal.returns-clause-early
 returns-clause-early g c = λ honest.
-    let files = g.F.Files in
-    let options = c.args.options.now in
-    let s = files.sources c.args.files.now in
-    let o = chosen_by s options in
-    let word = options.source in
-    let name = source_name word in
-    let date = c.args.date in
-    let before = g.M.Sink.taken c.args.messages.now in
-    let story_old = g.S.Sink.taken c.args.story.now in
+    let files = g.F.Files in let options = c.args.options.now in let s = files.sources c.args.files.now in
+    let o = chosen_by s options in let word = options.source in let name = source_name word in let date = c.args.date in
+    let before = g.M.Sink.taken c.args.messages.now in let story_old = g.S.Sink.taken c.args.story.now in
     let after = g.M.Sink.taken c.compile_named.new.messages in
-    let story_new = g.S.Sink.taken c.compile_named.new.story in
-    let old = files.openings c.args.files.now in
+    let story_new = g.S.Sink.taken c.compile_named.new.story in let old = files.openings c.args.files.now in
     let new = files.openings c.compile_named.new.files in
     let some = sym c.names_nothing.ensures ∙ c.if-names_nothing.false in
     all_named (λ (x : Sources). IfErr c.compile_named.result (λ fault. IfMemory fault (StopsEarly (limits_of o.settings) x o
-    (start x o name)
-    before after))) word s some (c.compile_named.ensures.early honest)
+    (start x o name) before after))) word s some (c.compile_named.ensures.early honest)
 
 pub returns-then-names_nothing-clause-early : goal.returns-then-names_nothing-clause-early
 returns-then-names_nothing-clause-early g c = λ honest.
-    let options = c.args.options.now in
-    let s = g.F.Files.sources c.args.files.now in
-    let o = chosen_by s options in
-    let named = named_by options.source s in
-    let m = g.M.Sink in
-    let before = m.taken c.args.messages.now in
-    let after = m.taken c.refuse.new.messages in
-    let was = start named o (source_name options.source) in
+    let options = c.args.options.now in let s = g.F.Files.sources c.args.files.now in let o = chosen_by s options in
+    let named = named_by options.source s in let m = g.M.Sink in let before = m.taken c.args.messages.now in
+    let after = m.taken c.refuse.new.messages in let was = start named o (source_name options.source) in
     if_memory_more c.refuse.result (c.refuse.new.messages ≡ c.args.messages.now) (StopsEarly
     (limits_of o.settings) named o was before after)
     (λ same. subst (λ (x : Option (List ℕ)). StopsEarly (limits_of o.settings) named o was before x) (sym (ap m.taken same))

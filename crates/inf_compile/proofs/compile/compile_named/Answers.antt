@@ -14,29 +14,21 @@ use Rattle.inf_compile.proofs.compile.compile_named.Goals as goal
 
 pub returns-clause-begins : goal.returns-clause-begins
 returns-clause-begins g c = λ honest.
-    let files = g.F.Files in
-    let s = files.sources c.args.files.now in
-    let options = c.args.options.now in
+    let files = g.F.Files in let s = files.sources c.args.files.now in let options = c.args.options.now in
     let named = c.as_str.ensures.value ∙ c.in_ok-name.ensures.bytes in
-    on_err c.deliver.result
-    (begins_whole s _ (chosen_by s options) c.args.date _ _ (files.openings c.args.files.now)
+    on_err c.deliver.result (begins_whole s _ (chosen_by s options) c.args.date _ _ (files.openings c.args.files.now)
     (files.openings c.translate.new.files)
     (g.M.Sink.taken c.args.messages.now) (g.M.Sink.taken c.translate.new.messages) c.in_ok-compiled.compiled
-    (ap (λ (name : List ℕ). chosen_for s name options) named) named
-    (c.in_ok-compiled.ensures.comes honest))
+    (ap (λ (name : List ℕ). chosen_for s name options) named) named (c.in_ok-compiled.ensures.comes honest))
 
 pub returns-clause-opened : goal.returns-clause-opened
 returns-clause-opened g c = λ honest.
-    let files = g.F.Files in
-    let s = files.sources c.args.files.now in
-    let options = c.args.options.now in
+    let files = g.F.Files in let s = files.sources c.args.files.now in let options = c.args.options.now in
     let named = c.as_str.ensures.value ∙ c.in_ok-name.ensures.bytes in
-    on_err c.deliver.result
-    (opened_whole s _ (chosen_by s options) c.args.date _ _ (files.openings c.args.files.now)
+    on_err c.deliver.result (opened_whole s _ (chosen_by s options) c.args.date _ _ (files.openings c.args.files.now)
     (files.openings c.translate.new.files)
     (g.M.Sink.taken c.args.messages.now) (g.M.Sink.taken c.translate.new.messages) c.in_ok-compiled.compiled
-    (ap (λ (name : List ℕ). chosen_for s name options) named) named
-    (c.in_ok-compiled.ensures.comes honest))
+    (ap (λ (name : List ℕ). chosen_for s name options) named) named (c.in_ok-compiled.ensures.comes honest))
 
 pub returns-clause-clean : goal.returns-clause-clean
 returns-clause-clean g c =
@@ -49,8 +41,7 @@ returns-in_err-name-clause-quiet g c = hides_none c.from_residual.result (g.M.Si
 
 pub returns-in_err-compiled-clause-quiet : goal.returns-in_err-compiled-clause-quiet
 returns-in_err-compiled-clause-quiet g c =
-    let first = g.M.Sink.failures c.args.messages.now in
-    let now = g.M.Sink.failures c.translate.new.messages in
+    let first = g.M.Sink.failures c.args.messages.now in let now = g.M.Sink.failures c.translate.new.messages in
     let told : IfErr c.translate.result (λ fault. UnlessMessages fault (now ≡ first)) = c.translate.ensures.quiet.1 in
     let passed : IfErr c.from_residual-in_err-compiled.result (λ fault. UnlessMessages fault (now ≡ first)) = search rules in
     hides_behind c.from_residual-in_err-compiled.result first first now c.from_residual-in_err-compiled.ensures.0 refl passed
@@ -62,20 +53,17 @@ returns-clause-quiet g c =
 
 pub returns-in_err-name-clause-seen : goal.returns-in_err-name-clause-seen
 returns-in_err-name-clause-seen g c =
-    let faults = g.F.Files.faults c.args.files.now in
-    tells_none c.from_residual.result faults faults refl
+    let faults = g.F.Files.faults c.args.files.now in tells_none c.from_residual.result faults faults refl
 
 pub returns-in_err-compiled-clause-seen : goal.returns-in_err-compiled-clause-seen
 returns-in_err-compiled-clause-seen g c =
-    let first = g.F.Files.faults c.args.files.now in
-    let now = g.F.Files.faults c.translate.new.files in
+    let first = g.F.Files.faults c.args.files.now in let now = g.F.Files.faults c.translate.new.files in
     let told : IfErr c.translate.result (λ fault. UnlessRead fault (now ≡ first)) = c.translate.ensures.seen.1 in
     let passed : IfErr c.from_residual-in_err-compiled.result (λ fault. UnlessRead fault (now ≡ first)) = search rules in
     tells_behind c.from_residual-in_err-compiled.result first first now c.from_residual-in_err-compiled.ensures.0 refl passed
 
 pub returns-clause-seen : goal.returns-clause-seen
-returns-clause-seen g c =
-    tells_none c.deliver.result (g.F.Files.faults c.args.files.now) (g.F.Files.faults c.translate.new.files)
+returns-clause-seen g c = tells_none c.deliver.result (g.F.Files.faults c.args.files.now) (g.F.Files.faults c.translate.new.files)
     c.in_ok-compiled.ensures.seen.0
 
 -- want of memory
@@ -85,13 +73,10 @@ returns-in_err-name-clause-early g c = λ honest. if_memory_any c.from_residual.
 
 pub returns-in_err-compiled-clause-early : goal.returns-in_err-compiled-clause-early
 returns-in_err-compiled-clause-early g c = λ honest.
-    let s = g.F.Files.sources c.args.files.now in
-    let options = c.args.options.now in
-    let before = g.M.Sink.taken c.args.messages.now in
-    let after = g.M.Sink.taken c.translate.new.messages in
+    let s = g.F.Files.sources c.args.files.now in let options = c.args.options.now in
+    let before = g.M.Sink.taken c.args.messages.now in let after = g.M.Sink.taken c.translate.new.messages in
     let named = c.as_str.ensures.value ∙ c.in_ok-name.ensures.bytes in
-    let At : List ℕ → Type 0 =
-    λ name. StopsEarly (limits_of (chosen_for s name options).settings) s (chosen_for s name options)
+    let At : List ℕ → Type 0 = λ name. StopsEarly (limits_of (chosen_for s name options).settings) s (chosen_for s name options)
     (start s (chosen_for s name options) name) before after in
     let told : IfErr c.translate.result (λ fault. IfMemory fault (At c.as_str.result.now)) = c.translate.ensures.early honest in
     let passed : IfErr c.from_residual-in_err-compiled.result (λ fault. IfMemory fault (At c.as_str.result.now)) = search rules in

@@ -11,8 +11,7 @@ returns-in_err-ending-clause-quiet g c = hides_none c.from_residual.result (g.M.
 
 pub returns-in_err-compiled-clause-quiet : goal.returns-in_err-compiled-clause-quiet
 returns-in_err-compiled-clause-quiet g c =
-    let first = g.M.Sink.failures c.args.messages.now in
-    let now = g.M.Sink.failures c.written.new.messages in
+    let first = g.M.Sink.failures c.args.messages.now in let now = g.M.Sink.failures c.written.new.messages in
     let told : IfErr c.written.result (λ fault. UnlessMessages fault (now ≡ first)) = c.written.ensures.wrote.1.1 in
     let passed : IfErr c.from_residual-in_err-compiled.result (λ fault. UnlessMessages fault (now ≡ first)) = search rules in
     hides_behind c.from_residual-in_err-compiled.result first first now c.from_residual-in_err-compiled.ensures.0 refl passed

@@ -12,9 +12,7 @@ use Rattle.inf_compile.proofs.heads.read_head.Goals as goal
 
 pub loop-head-init : goal.loop-head-init
 loop-head-init g c =
-    let files = g.F.Files in
-    let a = c.args.files.now in
-    let x = c.args.open_files.now in
+    let files = g.F.Files in let a = c.args.files.now in let x = c.args.open_files.now in
     record {
       led = λ honest start nested.
           let first = nesting (files.sources a) start (files.openings a) x in
@@ -33,19 +31,11 @@ loop-head-init g c =
 
 pub loop-head-preserved : goal.loop-head-preserved
 loop-head-preserved g c =
-    let files = g.F.Files in
-    let a = c.args.files.now in
-    let b = c.loop-head.files in
-    let d = c.next_head_word.new.files in
-    let x = c.args.open_files.now in
-    let y = c.loop-head.open_files in
-    let z = c.next_head_word.new.self in
-    let from = c.loop-head.place in
-    let at = c.next_head_word.new.place in
-    let word = c.next_head_word.new.word.items in
-    let inv = c.loop-head.invariant in
-    let call = c.next_head_word.ensures in
-    let took = c.in_ok-next_head_word.ensures in
+    let files = g.F.Files in let a = c.args.files.now in let b = c.loop-head.files in
+    let d = c.next_head_word.new.files in let x = c.args.open_files.now in let y = c.loop-head.open_files in
+    let z = c.next_head_word.new.self in let from = c.loop-head.place in let at = c.next_head_word.new.place in
+    let word = c.next_head_word.new.word.items in let inv = c.loop-head.invariant in
+    let call = c.next_head_word.ensures in let took = c.in_ok-next_head_word.ensures in
     let goes_to = took.took.0 ∙ ap goes_on_at c.if-branch.true in
     record {
       led = λ honest start nested.
@@ -76,19 +66,11 @@ loop-head-preserved g c =
 
 pub returns-clause-head : goal.returns-clause-head
 returns-clause-head g c = λ honest start nested.
-    let files = g.F.Files in
-    let a = c.args.files.now in
-    let b = c.loop-head.files in
-    let d = c.next_head_word.new.files in
-    let x = c.args.open_files.now in
-    let y = c.loop-head.open_files in
-    let z = c.next_head_word.new.self in
-    let from = c.loop-head.place in
-    let at = c.next_head_word.new.place in
-    let word = c.next_head_word.new.word.items in
-    let inv = c.loop-head.invariant in
-    let took = c.in_ok-next_head_word.ensures in
-    let first = nesting (files.sources a) start (files.openings a) x in
+    let files = g.F.Files in let a = c.args.files.now in let b = c.loop-head.files in
+    let d = c.next_head_word.new.files in let x = c.args.open_files.now in let y = c.loop-head.open_files in
+    let z = c.next_head_word.new.self in let from = c.loop-head.place in let at = c.next_head_word.new.place in
+    let word = c.next_head_word.new.word.items in let inv = c.loop-head.invariant in
+    let took = c.in_ok-next_head_word.ensures in let first = nesting (files.sources a) start (files.openings a) x in
     let was = nesting (files.sources a) start (files.openings b) y in
     let now = nesting (files.sources a) start (files.openings d) z in
     let reads : ReadsHead false at word from was now =
@@ -100,19 +82,11 @@ returns-clause-head g c = λ honest start nested.
 
 pub returns-clause-nesting : goal.returns-clause-nesting
 returns-clause-nesting g c = λ honest start nested.
-    let files = g.F.Files in
-    let a = c.args.files.now in
-    let b = c.loop-head.files in
-    let d = c.next_head_word.new.files in
-    let x = c.args.open_files.now in
-    let y = c.loop-head.open_files in
-    let z = c.next_head_word.new.self in
-    let from = c.loop-head.place in
-    let at = c.next_head_word.new.place in
-    let word = c.next_head_word.new.word.items in
-    let inv = c.loop-head.invariant in
-    let took = c.in_ok-next_head_word.ensures in
-    let first = nesting (files.sources a) start (files.openings a) x in
+    let files = g.F.Files in let a = c.args.files.now in let b = c.loop-head.files in
+    let d = c.next_head_word.new.files in let x = c.args.open_files.now in let y = c.loop-head.open_files in
+    let z = c.next_head_word.new.self in let from = c.loop-head.place in let at = c.next_head_word.new.place in
+    let word = c.next_head_word.new.word.items in let inv = c.loop-head.invariant in
+    let took = c.in_ok-next_head_word.ensures in let first = nesting (files.sources a) start (files.openings a) x in
     let was = nesting (files.sources a) start (files.openings b) y in
     let now = nesting (files.sources a) start (files.openings d) z in
     let reads : ReadsHead false at word from was now =
@@ -124,16 +98,10 @@ returns-clause-nesting g c = λ honest start nested.
 
 pub returns-in_err-next_head_word-clause-unfinished : goal.returns-in_err-next_head_word-clause-unfinished
 returns-in_err-next_head_word-clause-unfinished g c = λ honest start nested.
-    let files = g.F.Files in
-    let a = c.args.files.now in
-    let b = c.loop-head.files in
-    let d = c.next_head_word.new.files in
-    let x = c.args.open_files.now in
-    let y = c.loop-head.open_files in
-    let past = c.next_head_word.new.self.lexer.window.given - 16777216 in
-    let from = c.loop-head.place in
-    let inv = c.loop-head.invariant in
-    let stops = c.in_err-next_head_word.ensures in
+    let files = g.F.Files in let a = c.args.files.now in let b = c.loop-head.files in
+    let d = c.next_head_word.new.files in let x = c.args.open_files.now in let y = c.loop-head.open_files in
+    let past = c.next_head_word.new.self.lexer.window.given - 16777216 in let from = c.loop-head.place in
+    let inv = c.loop-head.invariant in let stops = c.in_err-next_head_word.ensures in
     let not_ended : UnfinishedHead from (nesting (files.sources a) start (files.openings b) y).cursor past
     (unread (files.sources a) (files.openings d)) =
     behind_call files a b x y (λ s start. UnfinishedHead from (nesting s start (files.openings b) y).cursor past
@@ -155,8 +123,7 @@ returns-in_err-next_head_word-clause-went g c =
 
 pub returns-in_err-next_head_word-clause-same : goal.returns-in_err-next_head_word-clause-same
 returns-in_err-next_head_word-clause-same g c =
-    let reads = c.next_head_word.ensures.reads in
-    let same = c.loop-head.invariant.same in
+    let reads = c.next_head_word.ensures.reads in let same = c.loop-head.invariant.same in
     (reads.nest ∙ same.0, (reads.outer ∙ same.1.0, reads.file ∙ same.1.1))
 
 pub returns-in_err-next_head_word-clause-window : goal.returns-in_err-next_head_word-clause-window
@@ -175,8 +142,7 @@ returns-clause-went g c =
 
 pub returns-clause-same : goal.returns-clause-same
 returns-clause-same g c =
-    let reads = c.next_head_word.ensures.reads in
-    let same = c.loop-head.invariant.same in
+    let reads = c.next_head_word.ensures.reads in let same = c.loop-head.invariant.same in
     (reads.nest ∙ same.0, (reads.outer ∙ same.1.0, reads.file ∙ same.1.1))
 
 pub returns-clause-window : goal.returns-clause-window
@@ -192,15 +158,11 @@ returns-clause-seen g c = c.in_ok-next_head_word.ensures.reads.on.calm ∙ c.loo
 
 pub returns-in_err-next_head_word-clause-on : goal.returns-in_err-next_head_word-clause-on
 returns-in_err-next_head_word-clause-on g c = λ lost.
-    let stops = c.in_err-next_head_word.ensures in
-    let reads = rw stops.refused.0 at stops.reads in
-    reads.on.on
+    let stops = c.in_err-next_head_word.ensures in let reads = rw stops.refused.0 at stops.reads in reads.on.on
 
 pub returns-in_err-next_head_word-clause-cause : goal.returns-in_err-next_head_word-clause-cause
 returns-in_err-next_head_word-clause-cause g c = λ lost.
-    let files = g.F.Files in
-    let stops = c.in_err-next_head_word.ensures in
-    let told = stops.refused.0 in
+    let files = g.F.Files in let stops = c.in_err-next_head_word.ensures in let told = stops.refused.0 in
     let reads = rw told at stops.reads in
     let cause : Rose (files.faults c.args.files.now) (files.faults c.next_head_word.new.files)
     ⊎ (16777216 < c.next_head_word.new.self.lexer.window.given) = elim reads.on.cause [

@@ -7,11 +7,9 @@ use Rattle.inf_compile.proofs.heads.read_head.Given as goal
 -- the words that were taken, with those that are left, are those of the head
 abbrev pub invariant-loop-head : goal.invariant-loop-head
 invariant-loop-head g l =
-    let files = g.F.Files in
-    let sources = files.sources l.fn.files in
+    let files = g.F.Files in let sources = files.sources l.fn.files in
     record {
-      led : Honestly files l.fn.files l.fn.open_files (λ start.
-          Leads (nesting sources start (files.openings l.fn.files) l.fn.open_files)
+      led : Honestly files l.fn.files l.fn.open_files (λ start. Leads (nesting sources start (files.openings l.fn.files) l.fn.open_files)
           (nesting sources start (files.openings l.files) l.open_files) l.place l.head);
       opened : Honestly files l.fn.files l.fn.open_files
           (λ start. opened_since start (files.openings l.files) ≡ opened_since start (files.openings l.fn.files));

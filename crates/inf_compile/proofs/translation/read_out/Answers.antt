@@ -17,24 +17,16 @@ use Rattle.inf_compile.proofs.translation.read_out.Goals as goal
 
 pub returns-in-Ok-clause-concludes : goal.returns-in-Ok-clause-concludes
 returns-in-Ok-clause-concludes g c = λ honest start nested.
-    let files = g.F.Files in
-    let s = files.sources c.args.files.now in
-    let o = chosen c.args.session.setup in
-    let first = files.openings c.args.files.now in
-    let here = files.openings c.read.new.files in
-    let old = g.M.Sink.taken c.args.messages.now in
-    let mid = g.M.Sink.taken c.read.new.messages in
-    let new = g.M.Sink.taken c.supply_out.new.messages in
-    let read = c.in-Ok.ensures.called.made honest start nested in
+    let files = g.F.Files in let s = files.sources c.args.files.now in let o = chosen c.args.session.setup in
+    let first = files.openings c.args.files.now in let here = files.openings c.read.new.files in
+    let old = g.M.Sink.taken c.args.messages.now in let mid = g.M.Sink.taken c.read.new.messages in
+    let new = g.M.Sink.taken c.supply_out.new.messages in let read = c.in-Ok.ensures.called.made honest start nested in
     let now = state s start here c.read.new.self in
     subst (λ (f : Open). IfOk c.supply_out.result.1 (λ x. Concludes g.B.Bounds.most s o c.args.serial.now
-    (state s start first c.args.session []) start here f
-    old new x)) (sym c.supply_out.ensures.files)
-    (if_ok_more c.supply_out.result.1
+    (state s start first c.args.session []) start here f old new x)) (sym c.supply_out.ensures.files) (if_ok_more c.supply_out.result.1
     (λ x. Ends g.B.Bounds.most o c.args.serial.now now x mid new)
     (λ x. Concludes g.B.Bounds.most s o c.args.serial.now (state s start first c.args.session []) start here c.read.new.self.open_files old
-    new x)
-    (λ x d. concludes g.B.Bounds.most s o c.args.serial.now (state s start first c.args.session) now start here
+    new x) (λ x d. concludes g.B.Bounds.most s o c.args.serial.now (state s start first c.args.session) now start here
     c.read.new.self.open_files old mid new read.0 x read.1
     (λ told. c.in-Ok.ensures.ended) (c.read.ensures.called.went.nested honest start nested) (λ told. refl) d)
     (subst (λ (p : Choices). IfOk c.supply_out.result.1 (λ x. Ends g.B.Bounds.most p c.args.serial.now now x mid new))
@@ -43,15 +35,10 @@ returns-in-Ok-clause-concludes g c = λ honest start nested.
 
 pub returns-in-Ok-clause-stops : goal.returns-in-Ok-clause-stops
 returns-in-Ok-clause-stops g c = λ honest start nested.
-    let files = g.F.Files in
-    let s = files.sources c.args.files.now in
-    let o = chosen c.args.session.setup in
-    let first = files.openings c.args.files.now in
-    let here = files.openings c.read.new.files in
-    let old = g.M.Sink.taken c.args.messages.now in
-    let mid = g.M.Sink.taken c.read.new.messages in
-    let new = g.M.Sink.taken c.supply_out.new.messages in
-    let read = c.in-Ok.ensures.called.made honest start nested in
+    let files = g.F.Files in let s = files.sources c.args.files.now in let o = chosen c.args.session.setup in
+    let first = files.openings c.args.files.now in let here = files.openings c.read.new.files in
+    let old = g.M.Sink.taken c.args.messages.now in let mid = g.M.Sink.taken c.read.new.messages in
+    let new = g.M.Sink.taken c.supply_out.new.messages in let read = c.in-Ok.ensures.called.made honest start nested in
     let now = state s start here c.read.new.self in
     on_err_leads c.supply_out.result.1 (BreaksOff g.B.Bounds.most o c.args.serial.now now mid new)
     (Stops g.B.Bounds.most s o c.args.serial.now (state s start first c.args.session []) old new)
@@ -59,16 +46,14 @@ returns-in-Ok-clause-stops g c = λ honest start nested.
     read.1 (λ told. c.in-Ok.ensures.ended) t)
     (subst (λ (p : Choices). OnErr c.supply_out.result.1 (BreaksOff g.B.Bounds.most p c.args.serial.now now mid new))
     (ap chosen c.read.ensures.called.setup) (breaks_off_at c.supply_out.result.1 g.B.Bounds.most
-    (chosen c.read.new.self.setup) c.args.serial.now
-    c.read.new.self mid new s start here c.supply_out.ensures.err))
+    (chosen c.read.new.self.setup) c.args.serial.now c.read.new.self mid new s start here c.supply_out.ensures.err))
 
 pub returns-in-Ok-clause-heard : goal.returns-in-Ok-clause-heard
 returns-in-Ok-clause-heard g c = λ honest start nested. if_read_none c.supply_out.result.1 _ _ c.supply_out.ensures.fault
 
 pub returns-in-Err-clause-stops : goal.returns-in-Err-clause-stops
 returns-in-Err-clause-stops g c = λ honest start nested.
-    let files = g.F.Files in
-    let s = files.sources c.args.files.now in
+    let files = g.F.Files in let s = files.sources c.args.files.now in
     let cut = c.in-Err.ensures.called.broken honest start nested in
     stops_reading g.B.Bounds.most s (chosen c.args.session.setup) c.args.serial.now
     (state s start (files.openings c.args.files.now) c.args.session)
@@ -79,15 +64,12 @@ returns-in-Err-clause-heard g c = λ honest start nested. (c.in-Err.ensures.call
 
 pub returns-in-Ok-clause-opened : goal.returns-in-Ok-clause-opened
 returns-in-Ok-clause-opened g c = λ honest start nested.
-    let files = g.F.Files in
-    let s = files.sources c.args.files.now in
-    let here = files.openings c.read.new.files in
+    let files = g.F.Files in let s = files.sources c.args.files.now in let here = files.openings c.read.new.files in
     let read = c.in-Ok.ensures.called.made honest start nested in
     on_err c.supply_out.result.1 (
       read.0,
       opens_on (run g.B.Bounds.most s (chosen c.args.session.setup) read.0) (λ x. x) {openings = opened_since start here}
-          (λ told. refl) read.1
-          (λ told. refl),
+          (λ told. refl) read.1 (λ told. refl),
     )
 
 pub returns-in-Err-clause-opened : goal.returns-in-Err-clause-opened
@@ -113,9 +95,7 @@ returns-in-Ok-clause-went g c =
 
 pub returns-in-Ok-clause-fault : goal.returns-in-Ok-clause-fault
 returns-in-Ok-clause-fault g c =
-    let m = g.M.Sink in
-    let old = m.failures c.args.messages.now in
-    let mid = m.failures c.read.new.messages in
+    let m = g.M.Sink in let old = m.failures c.args.messages.now in let mid = m.failures c.read.new.messages in
     let new = m.failures c.supply_out.new.messages in
     if_caused_more c.supply_out.result.1 (λ name. ⊥)
     (λ name. IsUnreadable g.F.Files c.args.files.now c.read.new.files c.args.session.open_files c.supply_out.result.0) (Rose mid new)
@@ -127,11 +107,8 @@ returns-in-Ok-clause-fits g c = if_ok_always c.supply_out.result.1 _ c.in-Ok.ens
 
 pub returns-in-Ok-clause-clean : goal.returns-in-Ok-clause-clean
 returns-in-Ok-clause-clean g c =
-    let m = g.M.Sink in
-    let old = c.args.messages.now in
-    let mid = c.read.new.messages in
-    let new = c.supply_out.new.messages in
-    let serial = c.args.serial.now in
+    let m = g.M.Sink in let old = c.args.messages.now in let mid = c.read.new.messages in
+    let new = c.supply_out.new.messages in let serial = c.args.serial.now in
     if_ok_more c.supply_out.result.1 (λ x. SucceedsClean serial x (m.taken mid) (m.taken new))
     (λ x. SucceedsClean serial x (m.taken old) (m.taken new))
     (λ x p is. ends_behind m old mid new serial (story_in x) c.read.ensures.wrote.appends (p is)) c.supply_out.ensures.clean
@@ -149,15 +126,10 @@ returns-in-Ok-clause-seen g c =
 
 pub returns-in-Ok-clause-early : goal.returns-in-Ok-clause-early
 returns-in-Ok-clause-early g c = λ honest start nested.
-    let files = g.F.Files in
-    let s = files.sources c.args.files.now in
-    let o = chosen c.args.session.setup in
-    let first = files.openings c.args.files.now in
-    let here = files.openings c.read.new.files in
-    let old = g.M.Sink.taken c.args.messages.now in
-    let mid = g.M.Sink.taken c.read.new.messages in
-    let new = g.M.Sink.taken c.supply_out.new.messages in
-    let read = c.in-Ok.ensures.called.made honest start nested in
+    let files = g.F.Files in let s = files.sources c.args.files.now in let o = chosen c.args.session.setup in
+    let first = files.openings c.args.files.now in let here = files.openings c.read.new.files in
+    let old = g.M.Sink.taken c.args.messages.now in let mid = g.M.Sink.taken c.read.new.messages in
+    let new = g.M.Sink.taken c.supply_out.new.messages in let read = c.in-Ok.ensures.called.made honest start nested in
     let now = c.read.new.self in
     if_memory_more c.supply_out.result.1 (SuppliesPart g.B.Bounds.most (chosen now.setup) now mid new)
     (StopsEarly g.B.Bounds.most s o (state s start first c.args.session []) old new)
@@ -168,12 +140,9 @@ returns-in-Ok-clause-early g c = λ honest start nested.
 
 pub returns-in-Err-clause-early : goal.returns-in-Err-clause-early
 returns-in-Err-clause-early g c = λ honest start nested.
-    let files = g.F.Files in
-    let s = files.sources c.args.files.now in
-    let o = chosen c.args.session.setup in
+    let files = g.F.Files in let s = files.sources c.args.files.now in let o = chosen c.args.session.setup in
     let was = state s start (files.openings c.args.files.now) c.args.session in
-    let old = g.M.Sink.taken c.args.messages.now in
-    let new = g.M.Sink.taken c.read.new.messages in
+    let old = g.M.Sink.taken c.args.messages.now in let new = g.M.Sink.taken c.read.new.messages in
     let cut = c.in-Err.ensures.called.broken honest start nested in
     memory_any c.in-Err.fault (StopsEarly g.B.Bounds.most s o (was []) old new)
     (early_reading g.B.Bounds.most s o was old new cut.turns cut.cut)

@@ -13,10 +13,8 @@ use Rattle.inf_compile.proofs.translation.supply_out.Goals as goal
 
 pub returns-in-Ok-clause-ok : goal.returns-in-Ok-clause-ok
 returns-in-Ok-clause-ok g c =
-    let o = chosen c.args.session.setup in
-    let now = c.supply_all.new.session in
-    let old = g.M.Sink.taken c.args.messages.now in
-    let mid = g.M.Sink.taken c.supply_all.new.messages in
+    let o = chosen c.args.session.setup in let now = c.supply_all.new.session in
+    let old = g.M.Sink.taken c.args.messages.now in let mid = g.M.Sink.taken c.supply_all.new.messages in
     let new = g.M.Sink.taken c.finish.new.messages in
     if_ok_more c.finish.result.1
     (λ x. Delivers (finished g.B.Bounds.most c.args.serial.now now.open_files.nest.names (work_of now.progress.work)) x mid new)
@@ -25,10 +23,8 @@ returns-in-Ok-clause-ok g c =
 
 pub returns-in-Ok-clause-err : goal.returns-in-Ok-clause-err
 returns-in-Ok-clause-err g c =
-    let o = chosen c.args.session.setup in
-    let now = c.supply_all.new.session in
-    let old = g.M.Sink.taken c.args.messages.now in
-    let mid = g.M.Sink.taken c.supply_all.new.messages in
+    let o = chosen c.args.session.setup in let now = c.supply_all.new.session in
+    let old = g.M.Sink.taken c.args.messages.now in let mid = g.M.Sink.taken c.supply_all.new.messages in
     let new = g.M.Sink.taken c.finish.new.messages in
     on_err_leads c.finish.result.1
     (TakesFront (finished g.B.Bounds.most c.args.serial.now now.open_files.nest.names (work_of now.progress.work)).messages mid new)
@@ -42,15 +38,10 @@ returns-in-Err-clause-err g c =
 
 pub returns-in-Ok-clause-clean : goal.returns-in-Ok-clause-clean
 returns-in-Ok-clause-clean g c =
-    let m = g.M.Sink in
-    let old = c.args.messages.now in
-    let mid = c.supply_all.new.messages in
-    let new = c.finish.new.messages in
-    let now = c.supply_all.new.session in
-    let serial = c.args.serial.now in
+    let m = g.M.Sink in let old = c.args.messages.now in let mid = c.supply_all.new.messages in
+    let new = c.finish.new.messages in let now = c.supply_all.new.session in let serial = c.args.serial.now in
     if_ok_more c.finish.result.1 (λ x. x.status ≡ Status.Success → EndsCleanOf g.B.Bounds.most serial now.open_files.nest.names
-    (work_of now.progress.work) (story_in x) (m.taken mid) (m.taken new))
-    (λ x. SucceedsClean serial x (m.taken old) (m.taken new))
+    (work_of now.progress.work) (story_in x) (m.taken mid) (m.taken new)) (λ x. SucceedsClean serial x (m.taken old) (m.taken new))
     (λ x p is. ends_behind m old mid new serial (story_in x) c.supply_all.ensures.called.wrote.appends
     (record { limits = g.B.Bounds.most; files = now.open_files.nest.names; work = work_of now.progress.work; clean = p is }))
     c.finish.ensures.clean
@@ -63,11 +54,8 @@ returns-in-Ok-clause-quiet g c =
 
 pub returns-in-Ok-clause-early : goal.returns-in-Ok-clause-early
 returns-in-Ok-clause-early g c =
-    let m = g.M.Sink in
-    let o = chosen c.args.session.setup in
-    let old = m.taken c.args.messages.now in
-    let mid = m.taken c.supply_all.new.messages in
-    let new = m.taken c.finish.new.messages in
+    let m = g.M.Sink in let o = chosen c.args.session.setup in let old = m.taken c.args.messages.now in
+    let mid = m.taken c.supply_all.new.messages in let new = m.taken c.finish.new.messages in
     if_memory c.finish.result.1 (SuppliesPart g.B.Bounds.most o c.args.session old new)
     (λ is. subst (λ (x : Option (List ℕ)). SuppliesPart g.B.Bounds.most o c.args.session old x)
     (sym (ap m.taken (c.finish.ensures.memory is)))
@@ -84,9 +72,7 @@ returns-in-Ok-clause-files g c = c.finish.ensures.files ∙ c.supply_all.ensures
 
 pub returns-in-Ok-clause-fault : goal.returns-in-Ok-clause-fault
 returns-in-Ok-clause-fault g c =
-    let m = g.M.Sink in
-    let old = m.failures c.args.messages.now in
-    let mid = m.failures c.supply_all.new.messages in
+    let m = g.M.Sink in let old = m.failures c.args.messages.now in let mid = m.failures c.supply_all.new.messages in
     let new = m.failures c.finish.new.messages in
     if_caused_more c.finish.result.1 (λ name. ⊥) (λ name. ⊥) (Rose mid new) (Rose old new) (λ name never. never)
     (λ r. rose_earlier old mid new c.supply_all.ensures.called.wrote.appends.failures r) c.finish.ensures.fault

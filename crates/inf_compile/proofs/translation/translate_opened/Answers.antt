@@ -19,18 +19,12 @@ use Rattle.inf_compile.proofs.translation.translate_opened.Goals as goal
 
 pub returns-clause-concludes : goal.returns-clause-concludes
 returns-clause-concludes g c = λ honest start nested.
-    let files = g.F.Files in
-    let s = files.sources c.args.files.now in
-    let old = files.openings c.args.files.now in
-    let mid = files.openings c.read_head.new.files in
-    let now = files.openings c.translate_under.new.files in
-    let was = nesting s start old c.args.open_files in
-    let o = chosen_at was c.args.options.now in
+    let files = g.F.Files in let s = files.sources c.args.files.now in let old = files.openings c.args.files.now in
+    let mid = files.openings c.read_head.new.files in let now = files.openings c.translate_under.new.files in
+    let was = nesting s start old c.args.open_files in let o = chosen_at was c.args.options.now in
     let p = made c.letters.result c.settings-settings.result (map (λ d. d.now) c.as_slice.result.now) in
-    let options = c.with_head-options.result in
-    let serial = c.args.serial.now in
-    let before = g.M.Sink.taken c.args.messages.now in
-    let after = g.M.Sink.taken c.translate_under.new.messages in
+    let options = c.with_head-options.result in let serial = c.args.serial.now in
+    let before = g.M.Sink.taken c.args.messages.now in let after = g.M.Sink.taken c.translate_under.new.messages in
     let r = c.translate_under.result in
     let still = subst (λ b. IsTrue b) (sym c.read_head.ensures.went.honesty) honest in
     let here = c.choose.ensures.nested start mid (c.read_head.ensures.went.nested honest start nested) in
@@ -45,8 +39,7 @@ returns-clause-concludes g c = λ honest start nested.
     (c.set.ensures ∙ ap set_of (sym c.letters.ensures) ∙ ap (λ (x : Choices). set_of x.letters) chosen)
     (c.of.ensures.value ∙ ap most_quoted chosen) in
     subst (λ (n : Nesting). IfOk r.1 (λ x. Concludes (limits_of o.settings) s o serial (first_state o n []) start now r.0 before after x))
-    read
-    (subst (λ (q : Choices). IfOk r.1 (λ x. Concludes (limits_of q.settings) s q serial
+    read (subst (λ (q : Choices). IfOk r.1 (λ x. Concludes (limits_of q.settings) s q serial
     (first_state q (nesting s start mid c.choose.new.self) []) start now r.0 before after x)) chosen
     (subst (λ (y : Sources). IfOk r.1 (λ x. Concludes (limits_of p.settings) y p serial
     (first_state p (nesting y start mid c.choose.new.self) []) start now r.0 before after x)) c.read_head.ensures.went.sources
@@ -54,18 +47,12 @@ returns-clause-concludes g c = λ honest start nested.
 
 pub returns-clause-stops : goal.returns-clause-stops
 returns-clause-stops g c = λ honest start nested.
-    let files = g.F.Files in
-    let s = files.sources c.args.files.now in
-    let old = files.openings c.args.files.now in
-    let mid = files.openings c.read_head.new.files in
-    let now = files.openings c.translate_under.new.files in
-    let was = nesting s start old c.args.open_files in
-    let o = chosen_at was c.args.options.now in
+    let files = g.F.Files in let s = files.sources c.args.files.now in let old = files.openings c.args.files.now in
+    let mid = files.openings c.read_head.new.files in let now = files.openings c.translate_under.new.files in
+    let was = nesting s start old c.args.open_files in let o = chosen_at was c.args.options.now in
     let p = made c.letters.result c.settings-settings.result (map (λ d. d.now) c.as_slice.result.now) in
-    let options = c.with_head-options.result in
-    let serial = c.args.serial.now in
-    let before = g.M.Sink.taken c.args.messages.now in
-    let after = g.M.Sink.taken c.translate_under.new.messages in
+    let options = c.with_head-options.result in let serial = c.args.serial.now in
+    let before = g.M.Sink.taken c.args.messages.now in let after = g.M.Sink.taken c.translate_under.new.messages in
     let r = c.translate_under.result in
     let still = subst (λ b. IsTrue b) (sym c.read_head.ensures.went.honesty) honest in
     let here = c.choose.ensures.nested start mid (c.read_head.ensures.went.nested honest start nested) in
@@ -79,33 +66,24 @@ returns-clause-stops g c = λ honest start nested.
     (c.in-Ok-read_head.ensures.nesting honest start nested) (c.choose.ensures.nesting s start mid)
     (c.set.ensures ∙ ap set_of (sym c.letters.ensures) ∙ ap (λ (x : Choices). set_of x.letters) chosen)
     (c.of.ensures.value ∙ ap most_quoted chosen) in
-    on_err_weaker r.1
-    (λ k. subst (λ (n : Nesting). Stops (limits_of o.settings) s o serial (first_state o n []) before after) read
+    on_err_weaker r.1 (λ k. subst (λ (n : Nesting). Stops (limits_of o.settings) s o serial (first_state o n []) before after) read
     (subst (λ (q : Choices). Stops (limits_of q.settings) s q serial (first_state q (nesting s start mid c.choose.new.self) []) before
     after) chosen
     (subst (λ (y : Sources). Stops (limits_of p.settings) y p serial (first_state p (nesting y start mid c.choose.new.self) []) before
-    after) c.read_head.ensures.went.sources k)))
-    (c.translate_under.ensures.stops still start here)
+    after) c.read_head.ensures.went.sources k))) (c.translate_under.ensures.stops still start here)
 
 pub returns-clause-early : goal.returns-clause-early
 returns-clause-early g c = λ honest start nested.
-    let files = g.F.Files in
-    let s = files.sources c.args.files.now in
-    let old = files.openings c.args.files.now in
-    let mid = files.openings c.read_head.new.files in
-    let now = files.openings c.translate_under.new.files in
-    let was = nesting s start old c.args.open_files in
-    let o = chosen_at was c.args.options.now in
+    let files = g.F.Files in let s = files.sources c.args.files.now in let old = files.openings c.args.files.now in
+    let mid = files.openings c.read_head.new.files in let now = files.openings c.translate_under.new.files in
+    let was = nesting s start old c.args.open_files in let o = chosen_at was c.args.options.now in
     let p = made c.letters.result c.settings-settings.result (map (λ d. d.now) c.as_slice.result.now) in
-    let options = c.with_head-options.result in
-    let before = g.M.Sink.taken c.args.messages.now in
-    let after = g.M.Sink.taken c.translate_under.new.messages in
-    let r = c.translate_under.result in
+    let options = c.with_head-options.result in let before = g.M.Sink.taken c.args.messages.now in
+    let after = g.M.Sink.taken c.translate_under.new.messages in let r = c.translate_under.result in
     let still = subst (λ b. IsTrue b) (sym c.read_head.ensures.went.honesty) honest in
     let here = c.choose.ensures.nested start mid (c.read_head.ensures.went.nested honest start nested) in
     let chosen : p ≡ o = chosen_over_is was c.in-Ok-read_head.head c.args.options.now options p
-    (c.in-Ok-read_head.ensures.head honest start nested)
-    c.with_head-options.ensures
+    (c.in-Ok-read_head.ensures.head honest start nested) c.with_head-options.ensures
     (chosen_is c.letters.result options.letters c.settings-settings.result (settings_of options.settings)
     (map (λ d. d.now) c.as_slice.result.now) (directories_of options.path)
     c.letters.ensures c.settings-settings.ensures (ap (map (λ d. d.now)) c.as_slice.ensures.value ∙ c.in-Ok-directories.ensures)) in
@@ -121,23 +99,16 @@ returns-clause-early g c = λ honest start nested.
     (subst (λ (q : Choices). StopsEarly (limits_of q.settings) s q (first_state q (nesting s start mid c.choose.new.self) []) before
     after) chosen
     (subst (λ (y : Sources). StopsEarly (limits_of p.settings) y p (first_state p (nesting y start mid c.choose.new.self) []) before
-    after) c.read_head.ensures.went.sources k)))
-    (c.translate_under.ensures.early still start here)
+    after) c.read_head.ensures.went.sources k))) (c.translate_under.ensures.early still start here)
 
 pub returns-clause-opened : goal.returns-clause-opened
 returns-clause-opened g c = λ honest start nested.
-    let files = g.F.Files in
-    let s = files.sources c.args.files.now in
-    let old = files.openings c.args.files.now in
-    let mid = files.openings c.read_head.new.files in
-    let now = files.openings c.translate_under.new.files in
-    let was = nesting s start old c.args.open_files in
-    let o = chosen_at was c.args.options.now in
+    let files = g.F.Files in let s = files.sources c.args.files.now in let old = files.openings c.args.files.now in
+    let mid = files.openings c.read_head.new.files in let now = files.openings c.translate_under.new.files in
+    let was = nesting s start old c.args.open_files in let o = chosen_at was c.args.options.now in
     let p = made c.letters.result c.settings-settings.result (map (λ d. d.now) c.as_slice.result.now) in
-    let options = c.with_head-options.result in
-    let serial = c.args.serial.now in
-    let before = g.M.Sink.taken c.args.messages.now in
-    let after = g.M.Sink.taken c.translate_under.new.messages in
+    let options = c.with_head-options.result in let serial = c.args.serial.now in
+    let before = g.M.Sink.taken c.args.messages.now in let after = g.M.Sink.taken c.translate_under.new.messages in
     let r = c.translate_under.result in
     let still = subst (λ b. IsTrue b) (sym c.read_head.ensures.went.honesty) honest in
     let here = c.choose.ensures.nested start mid (c.read_head.ensures.went.nested honest start nested) in
@@ -151,31 +122,23 @@ returns-clause-opened g c = λ honest start nested.
     (c.in-Ok-read_head.ensures.nesting honest start nested) (c.choose.ensures.nesting s start mid)
     (c.set.ensures ∙ ap set_of (sym c.letters.ensures) ∙ ap (λ (x : Choices). set_of x.letters) chosen)
     (c.of.ensures.value ∙ ap most_quoted chosen) in
-    on_err_weaker r.1
-    (λ k. (
+    on_err_weaker r.1 (λ k. (
       k.0,
       subst (λ (n : Nesting). OpensAll (run (limits_of o.settings) s o k.0) (first_state o n) (opened_since start now)) read
           (subst (λ (q : Choices). OpensAll (run (limits_of q.settings) s q k.0) (first_state q (nesting s start mid c.choose.new.self))
           (opened_since start now)) chosen
           (subst (λ (y : Sources). OpensAll (run (limits_of p.settings) y p k.0) (first_state p (nesting y start mid c.choose.new.self))
           (opened_since start now)) c.read_head.ensures.went.sources k.1)),
-    ))
-    (c.translate_under.ensures.opened still start here)
+    )) (c.translate_under.ensures.opened still start here)
 
 pub returns-clause-heard : goal.returns-clause-heard
 returns-clause-heard g c = λ honest start nested.
-    let files = g.F.Files in
-    let s = files.sources c.args.files.now in
-    let old = files.openings c.args.files.now in
-    let mid = files.openings c.read_head.new.files in
-    let now = files.openings c.translate_under.new.files in
-    let was = nesting s start old c.args.open_files in
-    let o = chosen_at was c.args.options.now in
+    let files = g.F.Files in let s = files.sources c.args.files.now in let old = files.openings c.args.files.now in
+    let mid = files.openings c.read_head.new.files in let now = files.openings c.translate_under.new.files in
+    let was = nesting s start old c.args.open_files in let o = chosen_at was c.args.options.now in
     let p = made c.letters.result c.settings-settings.result (map (λ d. d.now) c.as_slice.result.now) in
-    let options = c.with_head-options.result in
-    let serial = c.args.serial.now in
-    let before = g.M.Sink.taken c.args.messages.now in
-    let after = g.M.Sink.taken c.translate_under.new.messages in
+    let options = c.with_head-options.result in let serial = c.args.serial.now in
+    let before = g.M.Sink.taken c.args.messages.now in let after = g.M.Sink.taken c.translate_under.new.messages in
     let r = c.translate_under.result in
     let still = subst (λ b. IsTrue b) (sym c.read_head.ensures.went.honesty) honest in
     let here = c.choose.ensures.nested start mid (c.read_head.ensures.went.nested honest start nested) in
@@ -189,10 +152,8 @@ returns-clause-heard g c = λ honest start nested.
     (c.in-Ok-read_head.ensures.nesting honest start nested) (c.choose.ensures.nesting s start mid)
     (c.set.ensures ∙ ap set_of (sym c.letters.ensures) ∙ ap (λ (x : Choices). set_of x.letters) chosen)
     (c.of.ensures.value ∙ ap most_quoted chosen) in
-    let first_faults = files.faults c.args.files.now in
-    let head_faults = files.faults c.read_head.new.files in
-    let last_faults = files.faults c.translate_under.new.files in
-    let later = Rose head_faults last_faults in
+    let first_faults = files.faults c.args.files.now in let head_faults = files.faults c.read_head.new.files in
+    let last_faults = files.faults c.translate_under.new.files in let later = Rose head_faults last_faults in
     let failed = Rose first_faults last_faults in
     if_read_more r.1 (λ name. GivenUp (limits_of o.settings) failed s o (begun_at was c.args.options.now) before after start now r.0 name)
     (λ name. GivenUpFrom (limits_of o.settings) failed s o was (begun_at was c.args.options.now) before after start now r.0 name)
@@ -200,8 +161,7 @@ returns-clause-heard g c = λ honest start nested.
     (given_up_between (limits_of o.settings) r.1 later failed s o (begun_at was c.args.options.now) before after start now r.0
     (rose_earlier first_faults head_faults last_faults c.read_head.ensures.went.faults)
     (subst (λ (n : Nesting). IfErr r.1 (λ x. IfRead x (λ name. GivenUp (limits_of o.settings) later s o (first_state o n) before after start
-    now r.0 name))) read
-    (subst (λ (q : Choices). IfErr r.1 (λ x. IfRead x (λ name. GivenUp (limits_of q.settings) later s q
+    now r.0 name))) read (subst (λ (q : Choices). IfErr r.1 (λ x. IfRead x (λ name. GivenUp (limits_of q.settings) later s q
     (first_state q (nesting s start mid c.choose.new.self)) before after start now r.0 name))) chosen
     (subst (λ (y : Sources). IfErr r.1 (λ x. IfRead x (λ name. GivenUp (limits_of p.settings) later y p
     (first_state p (nesting y start mid c.choose.new.self)) before after start now r.0 name))) c.read_head.ensures.went.sources
@@ -209,25 +169,16 @@ returns-clause-heard g c = λ honest start nested.
 
 pub returns-clause-went : goal.returns-clause-went
 returns-clause-went g c =
-    let files = g.F.Files in
-    let a = c.args.files.now in
-    let b = c.read_head.new.files in
-    let d = c.translate_under.new.files in
-    let x = c.args.open_files in
-    let y = c.choose.new.self in
+    let files = g.F.Files in let a = c.args.files.now in let b = c.read_head.new.files in
+    let d = c.translate_under.new.files in let x = c.args.open_files in let y = c.choose.new.self in
     let went = went_chosen files a b x c.read_head.new.open_files y c.set.result c.of.result c.choose.ensures.value c.choose.ensures.given
     c.choose.ensures.nested c.choose.ensures.given_all c.read_head.ensures.went in
-    let r = c.translate_under.result in
-    went_then files a b d x y r.0 went c.translate_under.ensures.went
+    let r = c.translate_under.result in went_then files a b d x y r.0 went c.translate_under.ensures.went
 
 pub returns-clause-fits : goal.returns-clause-fits
 returns-clause-fits g c =
-    let files = g.F.Files in
-    let a = c.args.files.now in
-    let b = c.read_head.new.files in
-    let d = c.translate_under.new.files in
-    let x = c.args.open_files in
-    let y = c.choose.new.self in
+    let files = g.F.Files in let a = c.args.files.now in let b = c.read_head.new.files in
+    let d = c.translate_under.new.files in let x = c.args.open_files in let y = c.choose.new.self in
     let went = went_chosen files a b x c.read_head.new.open_files y c.set.result c.of.result c.choose.ensures.value c.choose.ensures.given
     c.choose.ensures.nested c.choose.ensures.given_all c.read_head.ensures.went in
     let r = c.translate_under.result in
@@ -236,12 +187,8 @@ returns-clause-fits g c =
 
 pub returns-clause-fault : goal.returns-clause-fault
 returns-clause-fault g c =
-    let files = g.F.Files in
-    let a = c.args.files.now in
-    let b = c.read_head.new.files in
-    let d = c.translate_under.new.files in
-    let x = c.args.open_files in
-    let y = c.choose.new.self in
+    let files = g.F.Files in let a = c.args.files.now in let b = c.read_head.new.files in
+    let d = c.translate_under.new.files in let x = c.args.open_files in let y = c.choose.new.self in
     let went = went_chosen files a b x c.read_head.new.open_files y c.set.result c.of.result c.choose.ensures.value c.choose.ensures.given
     c.choose.ensures.nested c.choose.ensures.given_all c.read_head.ensures.went in
     let r = c.translate_under.result in
@@ -262,13 +209,9 @@ returns-in-Err-clause-opened g c = λ honest start nested. (zero, λ told. c.rea
 
 pub returns-in-Err-clause-heard : goal.returns-in-Err-clause-heard
 returns-in-Err-clause-heard g c = λ honest start nested.
-    let files = g.F.Files in
-    let s = files.sources c.args.files.now in
-    let old = files.openings c.args.files.now in
-    let now = files.openings c.read_head.new.files in
-    let was = nesting s start old c.args.open_files in
-    let options = c.args.options.now in
-    let o = chosen_at was options in
+    let files = g.F.Files in let s = files.sources c.args.files.now in let old = files.openings c.args.files.now in
+    let now = files.openings c.read_head.new.files in let was = nesting s start old c.args.open_files in
+    let options = c.args.options.now in let o = chosen_at was options in
     let told = g.M.Sink.taken c.args.messages.now in
     let failed = Rose (files.faults c.args.files.now) (files.faults c.read_head.new.files) in
     let head = c.in-Err.ensures in
@@ -278,9 +221,7 @@ returns-in-Err-clause-heard g c = λ honest start nested.
 
 pub returns-in-Err-clause-fault : goal.returns-in-Err-clause-fault
 returns-in-Err-clause-fault g c =
-    let files = g.F.Files in
-    let x = c.args.open_files in
-    let z = c.read_head.new.open_files in
+    let files = g.F.Files in let x = c.args.open_files in let z = c.read_head.new.open_files in
     unread_there files c.args.files.now c.read_head.new.files x z (c.in-Err.ensures.cause refl).1
 
 -- no memory for the directories

@@ -14,14 +14,9 @@ use Rattle.inf_compile.proofs.translation.translate_under.Goals as goal
 
 pub returns-in-Ok-clause-concludes : goal.returns-in-Ok-clause-concludes
 returns-in-Ok-clause-concludes g c = λ honest start nested.
-    let files = g.F.Files in
-    let s = files.sources c.args.files.now in
-    let old = files.openings c.args.files.now in
-    let now = files.openings c.read_out.new.files in
-    let o = chosen c.args.setup in
-    let session = c.in-Ok.session in
-    let before = g.M.Sink.taken c.args.messages.now in
-    let after = g.M.Sink.taken c.read_out.new.messages in
+    let files = g.F.Files in let s = files.sources c.args.files.now in let old = files.openings c.args.files.now in
+    let now = files.openings c.read_out.new.files in let o = chosen c.args.setup in let session = c.in-Ok.session in
+    let before = g.M.Sink.taken c.args.messages.now in let after = g.M.Sink.taken c.read_out.new.messages in
     let here = subst (λ (x : Open). IsNested start old x) (sym c.in-Ok.ensures.files) nested in
     let begun = begun_is s o start old (nesting s start old c.args.open_files) session []
     (ap (λ (x : Open). nesting s start old x) c.in-Ok.ensures.files) c.in-Ok.ensures.begins.begun c.in-Ok.ensures.begins.going
@@ -36,12 +31,8 @@ returns-in-Ok-clause-concludes g c = λ honest start nested.
 
 pub returns-in-Ok-clause-stops : goal.returns-in-Ok-clause-stops
 returns-in-Ok-clause-stops g c = λ honest start nested.
-    let files = g.F.Files in
-    let s = files.sources c.args.files.now in
-    let old = files.openings c.args.files.now in
-    let o = chosen c.args.setup in
-    let session = c.in-Ok.session in
-    let before = g.M.Sink.taken c.args.messages.now in
+    let files = g.F.Files in let s = files.sources c.args.files.now in let old = files.openings c.args.files.now in
+    let o = chosen c.args.setup in let session = c.in-Ok.session in let before = g.M.Sink.taken c.args.messages.now in
     let after = g.M.Sink.taken c.read_out.new.messages in
     let here = subst (λ (x : Open). IsNested start old x) (sym c.in-Ok.ensures.files) nested in
     let begun = begun_is s o start old (nesting s start old c.args.open_files) session []
@@ -52,19 +43,13 @@ returns-in-Ok-clause-stops g c = λ honest start nested.
     (subst (λ (p : Setup). Stops (limits_of c.args.setup.settings.now) s (chosen p) c.args.serial.now (state s start old session []) before
     after) c.in-Ok.ensures.setup
     (subst (λ (limits : Limits). Stops limits s (chosen session.setup) c.args.serial.now (state s start old session []) before after)
-    c.requires.limits k)))
-    (c.read_out.ensures.stops honest start here)
+    c.requires.limits k))) (c.read_out.ensures.stops honest start here)
 
 pub returns-in-Ok-clause-heard : goal.returns-in-Ok-clause-heard
 returns-in-Ok-clause-heard g c = λ honest start nested.
-    let files = g.F.Files in
-    let s = files.sources c.args.files.now in
-    let old = files.openings c.args.files.now in
-    let now = files.openings c.read_out.new.files in
-    let o = chosen c.args.setup in
-    let session = c.in-Ok.session in
-    let before = g.M.Sink.taken c.args.messages.now in
-    let after = g.M.Sink.taken c.read_out.new.messages in
+    let files = g.F.Files in let s = files.sources c.args.files.now in let old = files.openings c.args.files.now in
+    let now = files.openings c.read_out.new.files in let o = chosen c.args.setup in let session = c.in-Ok.session in
+    let before = g.M.Sink.taken c.args.messages.now in let after = g.M.Sink.taken c.read_out.new.messages in
     let rose = Rose (files.faults c.args.files.now) (files.faults c.read_out.new.files) in
     let here = subst (λ (x : Open). IsNested start old x) (sym c.in-Ok.ensures.files) nested in
     subst (λ (was : List ℕ → State). IfErr c.read_out.result.1 (λ x. IfRead x (λ name. GivenUp (limits_of c.args.setup.settings.now) rose s
@@ -80,15 +65,10 @@ returns-in-Ok-clause-heard g c = λ honest start nested.
 
 pub returns-in-Ok-clause-opened : goal.returns-in-Ok-clause-opened
 returns-in-Ok-clause-opened g c = λ honest start nested.
-    let files = g.F.Files in
-    let s = files.sources c.args.files.now in
-    let old = files.openings c.args.files.now in
-    let now = files.openings c.read_out.new.files in
-    let o = chosen c.args.setup in
-    let session = c.in-Ok.session in
+    let files = g.F.Files in let s = files.sources c.args.files.now in let old = files.openings c.args.files.now in
+    let now = files.openings c.read_out.new.files in let o = chosen c.args.setup in let session = c.in-Ok.session in
     let here = subst (λ (x : Open). IsNested start old x) (sym c.in-Ok.ensures.files) nested in
-    on_err_weaker c.read_out.result.1
-    (λ k. (
+    on_err_weaker c.read_out.result.1 (λ k. (
       k.0,
       subst (λ (was : List ℕ → State). OpensAll (run (limits_of c.args.setup.settings.now) s o k.0) was (opened_since start now))
           (λ i told. begun_is s o start old (nesting s start old c.args.open_files) session told
@@ -97,10 +77,8 @@ returns-in-Ok-clause-opened g c = λ honest start nested.
           (subst (λ (p : Setup). OpensAll (run (limits_of c.args.setup.settings.now) s (chosen p) k.0) (state s start old session)
           (opened_since start now)) c.in-Ok.ensures.setup
           (subst (λ (limits : Limits). OpensAll (run limits s (chosen session.setup) k.0) (state s start old session) (opened_since
-          start now))
-          c.requires.limits k.1)),
-    ))
-    (c.read_out.ensures.opened honest start here)
+          start now)) c.requires.limits k.1)),
+    )) (c.read_out.ensures.opened honest start here)
 
 pub returns-in-Ok-clause-went : goal.returns-in-Ok-clause-went
 returns-in-Ok-clause-went g c =
@@ -113,8 +91,7 @@ returns-in-Ok-clause-fits g c =
     c.in-Ok.ensures.files c.read_out.ensures.fits
 
 pub returns-in-Ok-clause-fault : goal.returns-in-Ok-clause-fault
-returns-in-Ok-clause-fault g c =
-    subst (λ (x : Open). IfErr c.read_out.result.1 (λ fault. Caused fault
+returns-in-Ok-clause-fault g c = subst (λ (x : Open). IfErr c.read_out.result.1 (λ fault. Caused fault
     (λ name. IsUnreadable g.F.Files c.args.files.now c.read_out.new.files x c.read_out.result.0)
     (Rose (g.M.Sink.failures c.args.messages.now) (g.M.Sink.failures c.read_out.new.messages)))) c.in-Ok.ensures.files
     c.read_out.ensures.fault
@@ -135,27 +112,21 @@ new-requires g c = λ s. ap (λ (l : Limits). l s) c.requires.limits
 
 pub returns-in-Ok-clause-early : goal.returns-in-Ok-clause-early
 returns-in-Ok-clause-early g c = λ honest start nested.
-    let files = g.F.Files in
-    let s = files.sources c.args.files.now in
-    let old = files.openings c.args.files.now in
-    let o = chosen c.args.setup in
-    let session = c.in-Ok.session in
-    let before = g.M.Sink.taken c.args.messages.now in
+    let files = g.F.Files in let s = files.sources c.args.files.now in let old = files.openings c.args.files.now in
+    let o = chosen c.args.setup in let session = c.in-Ok.session in let before = g.M.Sink.taken c.args.messages.now in
     let after = g.M.Sink.taken c.read_out.new.messages in
     let here = subst (λ (x : Open). IsNested start old x) (sym c.in-Ok.ensures.files) nested in
     let was = nesting s start old c.args.open_files in
     let begun = begun_is s o start old was session []
     (ap (λ (x : Open). nesting s start old x) c.in-Ok.ensures.files) c.in-Ok.ensures.begins.begun c.in-Ok.ensures.begins.going
     c.in-Ok.ensures.begins.conditionals c.in-Ok.ensures.begins.quoted c.in-Ok.ensures.begins.passed in
-    if_memory_more c.read_out.result.1
-    (StopsEarly g.B.Bounds.most s (chosen session.setup) (state s start old session []) before after)
+    if_memory_more c.read_out.result.1 (StopsEarly g.B.Bounds.most s (chosen session.setup) (state s start old session []) before after)
     (StopsEarly (limits_of c.args.setup.settings.now) s o (first_state o was []) before after)
     (λ k. subst (λ (t : State). StopsEarly (limits_of c.args.setup.settings.now) s o t before after) begun
     (subst (λ (p : Setup). StopsEarly (limits_of c.args.setup.settings.now) s (chosen p) (state s start old session []) before after)
     c.in-Ok.ensures.setup
     (subst (λ (limits : Limits). StopsEarly limits s (chosen session.setup) (state s start old session []) before after)
-    c.requires.limits k)))
-    (c.read_out.ensures.early honest start here)
+    c.requires.limits k))) (c.read_out.ensures.early honest start here)
 
 pub returns-in-Err-clause-early : goal.returns-in-Err-clause-early
 returns-in-Err-clause-early g c = λ honest start nested. early_none _ _ _ _ _

@@ -5,9 +5,7 @@ use Rattle.inf_conditionals.proofs.effects.turn_last.Goals as goal
 
 pub returns-in-Some : goal.returns-in-Some
 returns-in-Some c =
-    let all = c.args.conditionals.now in
-    let last = c.in-Some.last.now in
-    let item = c.in-Some.ensures.item in
+    let all = c.args.conditionals.now in let last = c.in-Some.last.now in let item = c.in-Some.ensures.item in
     let size : vec_len all ≡ length all.items = omega (arith, all.ok.0) in
     last_set_at all.items (vec_len all) last (record { place = last.place; is_second = true }) size item.3.0 item.1
     ∙ sym (ap turned_first (last_is_at all.items (vec_len all) last size item.3.0 item.1))

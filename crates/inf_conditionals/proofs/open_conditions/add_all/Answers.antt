@@ -14,24 +14,19 @@ on_err (Err e) P n h = h
 
 pub loop-token-preserved : goal.loop-token-preserved
 loop-token-preserved c =
-    let now = c.loop-token.tokens in
-    let t = spelled c.in-Some.token in
-    let n = length c.args.tokens.now in
+    let now = c.loop-token.tokens in let t = spelled c.in-Some.token in let n = length c.args.tokens.now in
     let new : c.add.new.self ≡ now ++ t ∷ [] =
     on_ok c.add.result (c.add.new.self ≡ now ++ t ∷ []) (sym c.is_err.ensures.value ∙ c.if-is_err.false) c.add.ensures.added in
     record {
-      all =
-          ap (λ (l : List SourceToken). l ++ c.next.new.self) new ∙ append_assoc now (t ∷ []) c.next.new.self
+      all = ap (λ (l : List SourceToken). l ++ c.next.new.self) new ∙ append_assoc now (t ∷ []) c.next.new.self
           ∙ ap (λ (l : List SourceToken). now ++ l) (sym c.in-Some.ensures.some) ∙ c.loop-token.invariant.all;
       long = omega (arith, c.loop-token.invariant.long, ap (λ (l : List SourceToken). length l) new, length-append now (t ∷ []));
-      front =
-          ap (λ (l : List SourceToken). take n l) new ∙ take-append-le n now (t ∷ []) c.loop-token.invariant.long
+      front = ap (λ (l : List SourceToken). take n l) new ∙ take-append-le n now (t ∷ []) c.loop-token.invariant.long
           ∙ c.loop-token.invariant.front;
     }
 
 pub returns-then-is_err-clause-err : goal.returns-then-is_err-clause-err
-returns-then-is_err-clause-err c =
-    c.truncate.ensures ∙ ap (λ i. take i c.add.new.self) c.len-before.ensures
+returns-then-is_err-clause-err c = c.truncate.ensures ∙ ap (λ i. take i c.add.new.self) c.len-before.ensures
     ∙ ap (λ (l : List SourceToken). take (length c.args.tokens.now) l)
     (on_err c.add.result (c.add.new.self ≡ c.loop-token.tokens) (sym c.is_err.ensures.value ∙ c.if-is_err.true) c.add.ensures.err)
     ∙ c.loop-token.invariant.front

@@ -5,8 +5,7 @@ use Rattle.inf_conditionals.proofs.truth.truth_of.Given as goal
 
 -- the tokens that are left lead from here to where all of them lead
 abbrev pub invariant-loop-token : goal.invariant-loop-token
-invariant-loop-token g l =
-    all_read l.declared l.out l.left (record { stack = l.rest; last = option_map spelled l.last; truth = l.truth })
+invariant-loop-token g l = all_read l.declared l.out l.left (record { stack = l.rest; last = option_map spelled l.last; truth = l.truth })
     ≡ all_read l.declared l.out l.tokens reading_begun
 
 abbrev pub decreases-loop-token : goal.decreases-loop-token

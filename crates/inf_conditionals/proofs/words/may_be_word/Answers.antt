@@ -16,6 +16,5 @@ pub returns-else-first-eq101 : goal.returns-else-first-eq101
 returns-else-first-eq101 c = λ no.
     let first = c.to_ascii_lowercase-first.result in
     let differs = false_from_ne_true (nat_eq first 101) (λ e. c.if-first-eq101.false (eqb-true first 101 e)) in
-    other_is_no_word c.args.bytes.now
-    (ap (λ (n : ℕ). nat_eq n 101 || nat_eq n 105) (sym c.to_ascii_lowercase-first.ensures.value)
+    other_is_no_word c.args.bytes.now (ap (λ (n : ℕ). nat_eq n 101 || nat_eq n 105) (sym c.to_ascii_lowercase-first.ensures.value)
     ∙ ap (λ (b : Bool). b || nat_eq first 105) differs ∙ no)

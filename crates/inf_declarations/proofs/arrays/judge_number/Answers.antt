@@ -12,9 +12,7 @@ end_several-requires g c = number_adds g.B.Bounds.most (handed c.args.context.no
 
 pub returns : goal.returns
 returns g c =
-    let limits = g.B.Bounds.most in
-    let context = handed c.args.context.now in
-    let w = work c.args.compilation.now in
+    let limits = g.B.Bounds.most in let context = handed c.args.context.now in let w = work c.args.compilation.now in
     let found : c.added_finding-found.result ≡ entry_finding limits context c.args.is_alone w =
     c.added_finding-found.ensures ∙ ap (λ (a : Adding). added_finding limits a w) c.adding.ensures
     ∙ number_found limits context c.args.is_alone c.args.number w c.requires in

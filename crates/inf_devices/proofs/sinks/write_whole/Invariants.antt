@@ -4,9 +4,7 @@ use Rattle.inf_devices.proofs.sinks.write_whole.Given as goal
 
 -- the bytes up to `done` were taken, and no failure was counted
 abbrev pub invariant-loop-done : goal.invariant-loop-done
-invariant-loop-done g l =
-    (l.done ≤ length l.bytes)
-    × Takes (g.S.Sink.taken l.initial.sink) (g.S.Sink.taken l.sink) (take l.done l.bytes)
+invariant-loop-done g l = (l.done ≤ length l.bytes) × Takes (g.S.Sink.taken l.initial.sink) (g.S.Sink.taken l.sink) (take l.done l.bytes)
     × (g.S.Sink.failures l.sink ≡ g.S.Sink.failures l.initial.sink)
 
 abbrev pub decreases-loop-done : goal.decreases-loop-done

@@ -20,10 +20,8 @@ returns-in_err-ending-clause-err g c = on_err c.from_residual.result (takes_no_f
 
 pub returns-clause-clean : goal.returns-clause-clean
 returns-clause-clean g c =
-    let old = g.M.Sink.taken c.args.messages.now in
-    let new = g.M.Sink.taken c.written.new.messages in
-    let names = c.args.names.now.names in
-    let serial = c.args.serial.now in
+    let old = g.M.Sink.taken c.args.messages.now in let new = g.M.Sink.taken c.written.new.messages in
+    let names = c.args.names.now.names in let serial = c.args.serial.now in
     let e = finished g.B.Bounds.most serial names (work_of c.args.work) in
     if_ok_more c.written.result (λ x. Delivers e x old new)
     (λ x. x.status ≡ Status.Success → EndsCleanOf g.B.Bounds.most serial names (work_of c.args.work) (story_in x) old new)
@@ -32,10 +30,8 @@ returns-clause-clean g c =
 
 pub returns-clause-errors : goal.returns-clause-errors
 returns-clause-errors g c =
-    let old = g.M.Sink.taken c.args.messages.now in
-    let new = g.M.Sink.taken c.written.new.messages in
-    let names = c.args.names.now.names in
-    let serial = c.args.serial.now in
+    let old = g.M.Sink.taken c.args.messages.now in let new = g.M.Sink.taken c.written.new.messages in
+    let names = c.args.names.now.names in let serial = c.args.serial.now in
     let e = finished g.B.Bounds.most serial names (work_of c.args.work) in
     if_ok_more c.written.result (λ x. Delivers e x old new) (λ x. x.status ≡ Status.Errors → x.story ≡ None)
     (λ x d. has_none e x old new (errors_none g.B.Bounds.most serial names (work_of c.args.work)) d)

@@ -7,8 +7,7 @@ use Rattle.inf_ending.proofs.ending.finish_at.Goals as goal
 
 pub returns-in-None : goal.returns-in-None
 returns-in-None g c =
-    let a = c.args in
-    let line = first_line a.files.now.names in
+    let a = c.args in let line = first_line a.files.now.names in
     let told = subst (λ (r : Reported). IfOk c.failed.result (λ t. seen t ≡ refused (with_error line line NoMain r)))
     c.report_of.ensures c.failed.ensures in
     let telling = told_of a.serial.now (work_of a.work) in

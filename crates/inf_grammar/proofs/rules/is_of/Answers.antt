@@ -8,8 +8,7 @@ use Rattle.inf_grammar.proofs.rules.is_of.Goals as goal
 pub returns-in-Some : goal.returns-in-Some
 returns-in-Some c =
     let l = c.in-Some.ensures.lookup in
-    let here = rw c.classes.ensures at l.3.0 in
-    let at = rw c.classes.ensures at l.1 in
+    let here = rw c.classes.ensures at l.3.0 in let at = rw c.classes.ensures at l.1 in
     c.is_in.ensures ∙ ap (λ s. has (set_number s) c.args.atom) at
     ∙ ap (λ n. has n c.args.atom) (class_is c.args.class c.in-Some.set.now here)
 

@@ -6,6 +6,5 @@ pub returns-in_default : goal.returns-in_default
 returns-in_default c = c.new.ensures.bytes ∙ sym (directory-undivided c.args.name.now c.in_default.ensures.cases)
 
 pub returns : goal.returns
-returns c =
-    c.in_ok-push_str.ensures.bytes ∙ ap (λ bs. bs ++ 47 ∷ []) c.in_ok-directory.ensures.ok
+returns c = c.in_ok-push_str.ensures.bytes ∙ ap (λ bs. bs ++ 47 ∷ []) c.in_ok-directory.ensures.ok
     ∙ sym (directory-split c.args.name.now c.in-Some.front.now c.in-Some.field-0-1.now c.in-Some.ensures.cases)

@@ -56,10 +56,8 @@ returns-then-is_empty-clause-heard g c =
     empty (may (filled.over empty)) c.mark.ensures)
 
 pub returns-in-Last-clause-heard : goal.returns-in-Last-clause-heard
-returns-in-Last-clause-heard g c =
-    heard_taken (λ t. found_after c.args.set c.args.limit t (sight c.take_all.new.self)) c.in_ok-taken.taken
-    c.windows.invariant.heard c.in_ok-refill.ensures.fills c.left-in-windows.ensures c.pass.ensures c.in_ok-taken.ensures.found
-    c.in-Last.is
+returns-in-Last-clause-heard g c = heard_taken (λ t. found_after c.args.set c.args.limit t (sight c.take_all.new.self)) c.in_ok-taken.taken
+    c.windows.invariant.heard c.in_ok-refill.ensures.fills c.left-in-windows.ensures c.pass.ensures c.in_ok-taken.ensures.found c.in-Last.is
 
 pub returns-in-Behind-clause-heard : goal.returns-in-Behind-clause-heard
 returns-in-Behind-clause-heard g c =
@@ -82,18 +80,15 @@ returns-in-Behind-clause-room g c =
 pub returns-in_err-refill-clause-went : goal.returns-in_err-refill-clause-went
 returns-in_err-refill-clause-went g c =
     let filled = c.in_err-refill.ensures in
-    rw (fault_is c.from_residual.result c.from_residual.ensures ∙ ap Err filled.err)
-    (heard_on c.windows.invariant.heard filled.fills).went
+    rw (fault_is c.from_residual.result c.from_residual.ensures ∙ ap Err filled.err) (heard_on c.windows.invariant.heard filled.fills).went
 
 pub returns-in_err-taken-clause-went : goal.returns-in_err-taken-clause-went
-returns-in_err-taken-clause-went g c =
-    rw (fault_is c.from_residual-in_err-taken.result c.from_residual-in_err-taken.ensures)
+returns-in_err-taken-clause-went g c = rw (fault_is c.from_residual-in_err-taken.result c.from_residual-in_err-taken.ensures)
     (heard_on c.windows.invariant.heard c.in_ok-refill.ensures.fills).went
 
 pub returns-in_err-refill-clause-refused : goal.returns-in_err-refill-clause-refused
 returns-in_err-refill-clause-refused g c = λ honest.
-    let filled = c.in_err-refill.ensures in
-    let inv = c.windows.invariant in
+    let filled = c.in_err-refill.ensures in let inv = c.windows.invariant in
     rw (fault_is c.from_residual.result c.from_residual.ensures ∙ ap Err filled.err)
     (token_stays_open c.args.set c.args.limit inv.heard filled.fills inv.opens (filled.refused refl) (filled.unread refl) honest)
 
@@ -103,5 +98,4 @@ returns-in_err-taken-clause-refused g c = λ honest.
     rw (fault_is c.from_residual-in_err-taken.result c.from_residual-in_err-taken.ensures)
     (ap (λ (f : Found). is_quoted f.ending) (sym (heard_source (heard_on c.windows.invariant.heard c.in_ok-refill.ensures.fills) honest))
     ∙ ap (λ l. is_quoted (find c.args.set c.args.limit c.windows.state (sight c.windows.seen) (l ++ behind)).ending)
-    (sym c.left-in-windows.ensures)
-    ∙ c.in_err-taken.ensures.memory refl behind)
+    (sym c.left-in-windows.ensures) ∙ c.in_err-taken.ensures.memory refl behind)

@@ -10,15 +10,13 @@ windows-init g c = record { heard = heard_none c.requires.few c.requires.window;
 
 pub windows-preserved : goal.windows-preserved
 windows-preserved g c =
-    let took = c.take_head-taken.ensures in
-    let filled = c.in_ok-refill.ensures in
+    let took = c.take_head-taken.ensures in let filled = c.in_ok-refill.ensures in
     record {
       heard = heard_taken (λ t. head_after t c.take_head-taken.new.word.items c.take_head-taken.new.lines) c.take_head-taken.result.0
           c.windows.invariant.heard filled.fills c.left-in-windows.ensures c.pass.ensures took.found c.in-On.is;
       before = λ not. sym (ap (λ t. is_behind (turn_place t)) c.in-On.is) ∙ took.before (c.windows.invariant.before not);
       room = room_on c.windows.lines.line _ c.take_head-taken.result.0 c.windows.window c.windows.invariant.room filled.taken
-          c.left-in-windows.ensures
-          c.pass.ensures took.within took.few;
+          c.left-in-windows.ensures c.pass.ensures took.within took.few;
     }
 
 pub windows-smaller : goal.windows-smaller
@@ -44,8 +42,7 @@ returns-then-is_empty-clause-heard g c =
     let filled = c.in_ok-refill.ensures in
     let empty = sym c.left.ensures ∙ none_left c.left.result.now (sym c.is_empty.ensures ∙ c.if-is_empty.true) in
     heard_same {failed = false} (heard_on c.windows.invariant.heard filled.fills)
-    (λ rest may. head_end c.windows.place c.windows.word.items c.windows.lines c.refill.new.self.left rest empty
-    (may (filled.over empty)))
+    (λ rest may. head_end c.windows.place c.windows.word.items c.windows.lines c.refill.new.self.left rest empty (may (filled.over empty)))
 
 pub returns-in-Stopped-clause-heard : goal.returns-in-Stopped-clause-heard
 returns-in-Stopped-clause-heard g c =
@@ -62,11 +59,9 @@ returns-in-Stopped-clause-room g c =
 pub returns-in_err-refill-clause-went : goal.returns-in_err-refill-clause-went
 returns-in_err-refill-clause-went g c =
     let filled = c.in_err-refill.ensures in
-    rw (fault_is c.from_residual.result c.from_residual.ensures ∙ ap Err filled.err)
-    (heard_on c.windows.invariant.heard filled.fills).went
+    rw (fault_is c.from_residual.result c.from_residual.ensures ∙ ap Err filled.err) (heard_on c.windows.invariant.heard filled.fills).went
 
 pub returns-in_err-refill-clause-refused : goal.returns-in_err-refill-clause-refused
 returns-in_err-refill-clause-refused g c = λ refused not honest.
-    let filled = c.in_err-refill.ensures in
-    let inv = c.windows.invariant in
+    let filled = c.in_err-refill.ensures in let inv = c.windows.invariant in
     head_stays_open inv.heard filled.fills (inv.before not) (filled.refused refl) (filled.unread refl) honest

@@ -6,8 +6,7 @@ use Rattle.inf_machine.proofs.opening.reach.Goals as goal
 
 pub loop-symbol-smaller : goal.loop-symbol-smaller
 loop-symbol-smaller g c =
-    let rest = c.pop.new.self in
-    let rule = c.in-Rule.rule in
+    let rest = c.pop.new.self in let rule = c.in-Rule.rule in
     let here : c.loop-symbol.stack ≡ Symbol.Rule rule ∷ rest = c.in-Some.ensures ∙ ap (λ s. s ∷ rest) c.in-Rule.is in
     let next : c.add_all.new.self ≡ way g.T.Table.grammar g.T.Table.known c.args.atom rule ++ rest =
     c.in_ok-add_all-in-Rule.ensures.ok ∙ ap (λ xs. xs ++ rest) c.way.ensures in
@@ -22,8 +21,7 @@ loop-symbol-smaller g c =
 
 pub loop-symbol-preserved : goal.loop-symbol-preserved
 loop-symbol-preserved g c =
-    let rest = c.pop.new.self in
-    let rule = c.in-Rule.rule in
+    let rest = c.pop.new.self in let rule = c.in-Rule.rule in
     let here : c.loop-symbol.stack ≡ Symbol.Rule rule ∷ rest = c.in-Some.ensures ∙ ap (λ s. s ∷ rest) c.in-Rule.is in
     let next : c.add_all.new.self ≡ way g.T.Table.grammar g.T.Table.known c.args.atom rule ++ rest =
     c.in_ok-add_all-in-Rule.ensures.ok ∙ ap (λ xs. xs ++ rest) c.way.ensures in
@@ -31,9 +29,7 @@ loop-symbol-preserved g c =
     ap (λ s. fits g.T.Table.grammar g.T.Table.known c.args.atom s) (sym here) ∙ c.loop-symbol.invariant.fits_on in
     let on = way_on g.T.Table.grammar g.T.Table.known g.met.T.Table.decided c.args.atom rule rest fit in
     let same : taken g.T.Table.grammar g.T.Table.known c.args.atom c.add_all.new.self ≡ taken g.T.Table.grammar g.T.Table.known c.args.atom
-    c.loop-symbol.stack =
-    ap (λ s. taken g.T.Table.grammar g.T.Table.known c.args.atom s) next
-    ∙ sym on.same
+    c.loop-symbol.stack = ap (λ s. taken g.T.Table.grammar g.T.Table.known c.args.atom s) next ∙ sym on.same
     ∙ ap (λ s. taken g.T.Table.grammar g.T.Table.known c.args.atom s) (sym here) in
     record {
       fits_on = ap (λ s. fits g.T.Table.grammar g.T.Table.known c.args.atom s) next ∙ on.fits_on;

@@ -1,6 +1,6 @@
 -- The walk passes a rule that can be empty, and ends at one that the token begins.
 use Rattle.std.proofs.{lemmas.List.reverse-append, lemmas.Option.slice_get_within}
-use Rattle.std.proofs.Common.{◌≡◌, ◌-◌, ◌++◌, ◌∙◌, ap, sym, subst, arith, length, reverse, take}
+use Rattle.std.proofs.Common.{◌-◌, ◌++◌, ◌∙◌, ap, sym, subst, arith, length, reverse, take}
 use Rattle.inf_machine.specs.{Machine.acts_of, Machine.opened, Steps.Means, declared.steps.Step.Step}
 use Rattle.inf_machine.proofs.{Reaching.IsOn, Reaching.take_on, Stepping.opened_at, Stepping.passed_at, Stepping.silent_at}
 use Rattle.inf_machine.proofs.rest.reach.Goals as goal
@@ -55,8 +55,7 @@ returns-in-Opened-clause-left g c t =
     ∙ reverse-append (take (c.loop-below.below - 1) c.loop-below.symbols.items) c.left.result.now
     ∙ ap (λ left. left ++ reverse (take (c.loop-below.below - 1) c.loop-below.symbols.items)) c.left.ensures
     ∙ ap (λ all. (opened g.T.Table.grammar g.T.Table.known c.opening-opening.result.now.0 c.opening-opening.result.now.1).left
-    ++ reverse (take (c.loop-below.below - 1) all)) c.loop-below.invariant.same
-    ∙ end.left_is
+    ++ reverse (take (c.loop-below.below - 1) all)) c.loop-below.invariant.same ∙ end.left_is
 
 pub returns-in-Opened-clause-actions : goal.returns-in-Opened-clause-actions
 returns-in-Opened-clause-actions g c t =
@@ -66,6 +65,4 @@ returns-in-Opened-clause-actions g c t =
     c.loop-below.symbols.items c.loop-below.below c.in-Rule.rule c.index.result.now c.args.actions.now.items c.loop-below.actions.items
     c.in-Opened.place c.opening-opening.result.now (omega arith) c.loop-below.invariant.within c.loop-below.invariant.same c.index.ensures
     c.in-Rule.is means c.opening-opening.ensures c.loop-below.invariant.on in
-    c.in_ok-add_all-in-Opened.ensures.ok
-    ∙ ap (λ xs. c.loop-below.actions.items ++ xs) c.actions.ensures
-    ∙ end.actions
+    c.in_ok-add_all-in-Opened.ensures.ok ∙ ap (λ xs. c.loop-below.actions.items ++ xs) c.actions.ensures ∙ end.actions

@@ -1,4 +1,4 @@
-use Rattle.std.proofs.Common.{◌≡◌, ◌≤◌, ◌-◌, drop, length}
+use Rattle.std.proofs.Common.{◌≡◌, ◌≤◌, drop, length}
 use Rattle.std.specs.Str.{str_eq_ignore_ascii_case}
 use Rattle.inf_names.proofs.locals.are_same_bytes.Given as goal
 

@@ -1,14 +1,13 @@
-use Rattle.std.proofs.Common.{◌≡◌, ◌≤◌, ◌++◌, length, map, true, ap, ◌∙◌, arith}
+use Rattle.std.proofs.Common.{◌≡◌, length, true, ap, arith}
 use Rattle.inf_properties.specs.Sizes.{are_short}
-use Rattle.inf_objects.specs.Tables.{all_falling, falling, rows_of, table_cells}
-use Rattle.inf_objects.proofs.Interpreting.{AreRows, falling_below, falling_rows, found_falling, short_rows, table_is_read}
+use Rattle.inf_objects.specs.Tables.{all_falling, falling, rows_of}
+use Rattle.inf_objects.proofs.Interpreting.{falling_below, falling_rows, found_falling, short_rows, table_is_read}
 use Rattle.inf_objects.proofs.laws.table_as_read.Goals as goal
 
 pub returns-clause-read : goal.returns-clause-read
 unfolding all_falling
 returns-clause-read c =
-    let o = c.args.object.now in
-    let part = c.args.part in
+    let o = c.args.object.now in let part = c.args.part in
     let short : are_short (rows_of part o) ≡ true = short_rows o.owner part o
     (omega (arith, c.as_slice-classes.ensures.few, ap length c.as_slice-classes.ensures.value)) c.as_slice-properties.ensures.short in
     λ number_of rest. table_is_read number_of o.name c.args.words (falling 64 (rows_of part o)) rest c.requires.name c.requires.few

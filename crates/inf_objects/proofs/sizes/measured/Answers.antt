@@ -6,8 +6,7 @@ use Rattle.inf_objects.proofs.sizes.measured.Goals as goal
 
 pub returns : goal.returns
 returns c =
-    let o = c.args.object.now in
-    let is = sym c.measure_by.ensures in
+    let o = c.args.object.now in let is = sym c.measure_by.ensures in
     record {
       value = c.measure_by.ensures;
       table = λ part. subst (λ (m : Measure). (length (bytes_of (table_cells part o)) ≡ m.table.bytes) ×

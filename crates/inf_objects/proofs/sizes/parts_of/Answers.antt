@@ -6,9 +6,7 @@ use Rattle.inf_objects.proofs.sizes.parts_of.Goals as goal
 
 pub plus-all-requires : goal.plus-all-requires
 plus-all-requires c =
-    let ps = c.args.properties.now in
-    let p = c.property-item.result in
-    let kind = c.args.individual in
+    let ps = c.args.properties.now in let p = c.property-item.result in let kind = c.args.individual in
     let now = c.loop-property.invariant in
     let step = sum_step (λ q. (kind_part kind q).bytes) ps c.loop-property.property-index p c.loop-property-test.true c.property-item.is in
     let here = ap (λ (s : Part). s.bytes) c.kind_part.ensures in
@@ -21,9 +19,7 @@ plus-all-requires c =
 
 pub loop-property-preserved : goal.loop-property-preserved
 loop-property-preserved c =
-    let ps = c.args.properties.now in
-    let i = c.loop-property.property-index in
-    let p = c.property-item.result in
+    let ps = c.args.properties.now in let i = c.loop-property.property-index in let p = c.property-item.result in
     let kind = c.args.individual in
     let bytes = sum_step (λ q. (kind_part kind q).bytes) ps i p c.loop-property-test.true c.property-item.is in
     let later = sum_step (λ q. (kind_part kind q).later) ps i p c.loop-property-test.true c.property-item.is in

@@ -14,9 +14,7 @@ hang-requires-clause-parent c =
 
 pub loop-parent-preserved : goal.loop-parent-preserved
 loop-parent-preserved c =
-    let left = c.loop-parent.left.now in
-    let before = c.in-Some.before.now in
-    let p = c.in-Some.parent.now in
+    let left = c.loop-parent.left.now in let before = c.in-Some.before.now in let p = c.in-Some.parent.now in
     let is : left ≡ before ++ p ∷ [] = c.in-Some.ensures.cases.0 in
     record {
       made = ap (made 0 before) c.hang.ensures.links ∙ made-step left before p c.loop-parent.links.items is ∙ c.loop-parent.invariant.made;

@@ -7,10 +7,8 @@ use Rattle.inf_opcode.proofs.writing.front_bytes.Goals as goal
 
 pub loop-operand-preserved : goal.loop-operand-preserved
 loop-operand-preserved c =
-    let instruction = c.args.instruction.now in
-    let operands = instruction.operands.now in
-    let i = c.loop-operand.operand-index in
-    let inv = c.loop-operand.invariant in
+    let instruction = c.args.instruction.now in let operands = instruction.operands.now in
+    let i = c.loop-operand.operand-index in let inv = c.loop-operand.invariant in
     record {
       bytes = c.push_operand.ensures.value ∙ ap (λ b. b ++ long_bytes (operand_cells (get_or operands i (Operand.Large 0)))) inv.bytes
           ∙ long-more (heading (row_of instruction.opcode) operands) operands i (Operand.Large 0) c.loop-operand-test.true;

@@ -9,20 +9,15 @@ use Rattle.inf_opcode.proofs.writing.instruction_counts.Goals as goal
 pub returns-clause-value : goal.returns-clause-value
 returns-clause-value c =
     let make : ℕ → ℕ → ℕ → Counts = λ b l h. record { bytes = b; labels = l; fixups = h } in
-    let instruction = c.args.instruction.now in
-    let operands = instruction.operands.now in
-    let head = heading (row_of instruction.opcode) operands in
-    let a = plain head in
-    let b = flat_map operand_cells operands in
-    let s = store_cells instruction.store in
-    let r = branch_cells instruction.branch in
-    let all = counts_of (front_cells (parts_of instruction)) in
+    let instruction = c.args.instruction.now in let operands = instruction.operands.now in
+    let head = heading (row_of instruction.opcode) operands in let a = plain head in
+    let b = flat_map operand_cells operands in let s = store_cells instruction.store in
+    let r = branch_cells instruction.branch in let all = counts_of (front_cells (parts_of instruction)) in
     let given = c.operands_counts-given.ensures.value in
     let first : c.heading_len-head.result ≡ length head =
     c.heading_len-head.ensures.value ∙ ap (λ row. length (heading row operands)) c.row.ensures.exact in
     let bytes : c.heading_len-head.result + c.operands_counts-given.result.bytes + c.store_len-store.result + 2 *
-    c.branch_count-branch.result ≡ all.bytes =
-    omega (
+    c.branch_count-branch.result ≡ all.bytes = omega (
       arith,
       first,
       ap (λ x. x.bytes) given,

@@ -8,8 +8,7 @@ use Rattle.inf_opcode.proofs.writing.keep_front.Goals as goal
 
 pub overflow_add-first : goal.overflow_add-first
 overflow_add-first c =
-    let instruction = c.args.instruction.now in
-    let operands = instruction.operands.now in
+    let instruction = c.args.instruction.now in let operands = instruction.operands.now in
     let head = heading (row_of instruction.opcode) operands in
     omega (
       arith,
@@ -21,8 +20,7 @@ overflow_add-first c =
 
 pub keep_operands-requires : goal.keep_operands-requires
 keep_operands-requires c =
-    let instruction = c.args.instruction.now in
-    let operands = instruction.operands.now in
+    let instruction = c.args.instruction.now in let operands = instruction.operands.now in
     let head = heading (row_of instruction.opcode) operands in
     omega (
       arith,
@@ -34,15 +32,12 @@ keep_operands-requires c =
 
 pub returns-in_default-clause-ok : goal.returns-in_default-clause-ok
 returns-in_default-clause-ok c =
-    let instruction = c.args.instruction.now in
-    let operands = instruction.operands.now in
-    let head = heading (row_of instruction.opcode) operands in
-    let cells = flat_map operand_cells operands in
+    let instruction = c.args.instruction.now in let operands = instruction.operands.now in
+    let head = heading (row_of instruction.opcode) operands in let cells = flat_map operand_cells operands in
     let first : c.args.start + c.heading_len.result ≡ c.args.start + length head =
     ap (λ n. c.args.start + n) (c.heading_len.ensures.value ∙ ap (λ row. length (heading row operands)) c.row.ensures.exact) in
     let kept = c.args.kept.now.items in
-    c.in_ok-keep_operands.ensures.ok
-    ∙ ap (λ n. kept ++ kept_from n cells) first
+    c.in_ok-keep_operands.ensures.ok ∙ ap (λ n. kept ++ kept_from n cells) first
     ∙ ap (λ k. kept ++ k) (sym (append-nil (kept_from (c.args.start + length head) cells)))
     ∙ ap (λ k. kept ++ k) (sym (ap (λ (b : Option Branch). kept_from (c.args.start + length head) cells ++ kept_from
     (c.args.start + length (long_bytes (plain head ++ cells ++ store_cells instruction.store))) (branch_cells b)) c.in_default.is))
@@ -50,16 +45,12 @@ returns-in_default-clause-ok c =
 
 pub returns-in_ok-push-clause-ok : goal.returns-in_ok-push-clause-ok
 returns-in_ok-push-clause-ok c =
-    let instruction = c.args.instruction.now in
-    let operands = instruction.operands.now in
-    let head = heading (row_of instruction.opcode) operands in
-    let cells = flat_map operand_cells operands in
-    let front = plain head ++ cells ++ store_cells instruction.store in
-    let branch = c.in-Some.branch in
+    let instruction = c.args.instruction.now in let operands = instruction.operands.now in
+    let head = heading (row_of instruction.opcode) operands in let cells = flat_map operand_cells operands in
+    let front = plain head ++ cells ++ store_cells instruction.store in let branch = c.in-Some.branch in
     let first : c.args.start + c.heading_len.result ≡ c.args.start + length head =
     ap (λ n. c.args.start + n) (c.heading_len.ensures.value ∙ ap (λ row. length (heading row operands)) c.row.ensures.exact) in
-    let kept = c.args.kept.now.items in
-    let given = kept_from (c.args.start + length head) cells in
+    let kept = c.args.kept.now.items in let given = kept_from (c.args.start + length head) cells in
     let Entry : ℕ → Kept = λ n. record { place = n; what = Special.Branches branch } in
     let size : length (long_bytes (branch_cells instruction.branch)) ≡ 2 =
     ap (λ (b : Option Branch). length (long_bytes (branch_cells b))) c.in-Some.is in
@@ -67,8 +58,6 @@ returns-in_ok-push-clause-ok c =
     omega (arith, c.requires, size, length-long front (branch_cells instruction.branch)) in
     c.in_ok-push.ensures.items
     ∙ ap (λ k. k ++ Entry (c.args.end - 2) ∷ []) (c.in_ok-keep_operands.ensures.ok ∙ ap (λ n. kept ++ kept_from n cells) first)
-    ∙ append_assoc kept given (Entry (c.args.end - 2) ∷ [])
-    ∙ ap (λ n. kept ++ (given ++ Entry n ∷ [])) place
+    ∙ append_assoc kept given (Entry (c.args.end - 2) ∷ []) ∙ ap (λ n. kept ++ (given ++ Entry n ∷ [])) place
     ∙ ap (λ k. kept ++ k) (sym (ap (λ (b : Option Branch). given ++ kept_from (c.args.start + length (long_bytes front)) (branch_cells b))
-    c.in-Some.is))
-    ∙ ap (λ k. kept ++ k) (sym (kept-front c.args.start head cells instruction.store instruction.branch))
+    c.in-Some.is)) ∙ ap (λ k. kept ++ k) (sym (kept-front c.args.start head cells instruction.store instruction.branch))

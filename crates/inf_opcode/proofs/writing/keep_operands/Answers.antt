@@ -15,9 +15,7 @@ overflow_add-place c = omega (
 
 pub loop-operand-preserved : goal.loop-operand-preserved
 loop-operand-preserved c =
-    let operands = c.args.operands.now in
-    let i = c.loop-operand.operand-index in
-    let inv = c.loop-operand.invariant in
+    let operands = c.args.operands.now in let i = c.loop-operand.operand-index in let inv = c.loop-operand.invariant in
     let before = flat_map operand_cells (take i operands) in
     let here = operand_cells (get_or operands i (Operand.Large 0)) in
     let more = operands_more operands i (Operand.Large 0) c.loop-operand-test.true in

@@ -7,12 +7,10 @@ use Rattle.inf_opcode.proofs.writing.operands_counts.Goals as goal
 
 pub loop-operand-preserved : goal.loop-operand-preserved
 loop-operand-preserved c =
-    let operands = c.args.operands.now in
-    let i = c.loop-operand.operand-index in
+    let operands = c.args.operands.now in let i = c.loop-operand.operand-index in
     let more = operands_more operands i (Operand.Large 0) c.loop-operand-test.true in
     let before = flat_map operand_cells (take i operands) in
-    let here = operand_cells (get_or operands i (Operand.Large 0)) in
-    let now = c.loop-operand.invariant in
+    let here = operand_cells (get_or operands i (Operand.Large 0)) in let now = c.loop-operand.invariant in
     let one = c.operand_counts-one.ensures in
     record {
       bytes = omega (arith, now.bytes, ap (λ x. x.bytes) one.value, length-long before here, ap (λ cs. length (long_bytes cs)) more);

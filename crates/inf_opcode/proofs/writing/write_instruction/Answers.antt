@@ -28,11 +28,9 @@ returns-in_err-append_text-clause-err g c = on_err c.from_residual-in_err-append
 
 pub returns-clause-ok : goal.returns-clause-ok
 returns-clause-ok g c =
-    let bytes = g.A.Area.bytes c.args.area.now in
-    let kept = c.args.kept.now.items in
+    let bytes = g.A.Area.bytes c.args.area.now in let kept = c.args.kept.now.items in
     let cells = front_cells (parts_of c.args.instruction.now) in
-    let front : Grew bytes kept cells (g.A.Area.bytes c.append.new.self) c.keep_front.new.kept.items =
-    record {
+    let front : Grew bytes kept cells (g.A.Area.bytes c.append.new.self) c.keep_front.new.kept.items = record {
       bytes = c.in_ok-append.ensures.ok ∙ ap (λ xs. bytes ++ xs) (c.as_slice.ensures.value ∙ c.front_bytes.ensures);
       kept = c.in_ok-keep_front.ensures.ok ∙ ap (λ n. kept ++ kept_from n cells) c.len-start.ensures.value;
     } in

@@ -1,4 +1,4 @@
-use Rattle.std.proofs.Common.{◌≡◌, ℕ, length, Bool, true, Option, Some, None, sym, ap, ◌∙◌, option_map, is_some}
+use Rattle.std.proofs.Common.{◌≡◌, ℕ, length, true, Option, Some, None, sym, ap, ◌∙◌, option_map, is_some}
 use Rattle.inf_output.specs.Output.{Out}
 use Rattle.inf_unit.specs.NameTokens.{named}
 use Rattle.inf_operands.proofs.Staying.{alone_stays, named_stays}

@@ -26,11 +26,8 @@ bounds-deref_mut-from-in_ok-number c =
 
 pub returns-clause-named : goal.returns-clause-named
 returns-clause-named c =
-    let list = c.args.locals.now.list in
-    let name = c.args.name.now in
-    let shown = c.deref_mut.result.now in
-    let place = c.from.result - 1 in
-    let none = c.index-deref_mut-from.result in
+    let list = c.args.locals.now.list in let name = c.args.name.now in let shown = c.deref_mut.result.now in
+    let place = c.from.result - 1 in let none = c.index-deref_mut-from.result in
     let is = found name list.items c.in_ok-number.number c.in_ok-number.ensures in
     let at : place ≡ position_or_len (has name) list.items = omega (arith, is.0, c.from.ensures) in
     let same : length (set shown place (as_named (get_or shown place none))) ≡ length list.items =

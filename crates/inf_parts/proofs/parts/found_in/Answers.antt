@@ -16,8 +16,7 @@ own_finding-own-requires-clause-trees g c =
 pub returns-clause-finding : goal.returns-clause-finding
 returns-clause-finding g c =
     let w = work c.args.compilation.now in
-    c.least_of_both-least.ensures
-    ∙ ap (λ f. least_of_both f c.own_finding-own.result) c.in_ok-finding.ensures.finding
+    c.least_of_both-least.ensures ∙ ap (λ f. least_of_both f c.own_finding-own.result) c.in_ok-finding.ensures.finding
     ∙ ap (λ f. least_of_both (finding_at (order_of c.args.part w) (wanted_of c.args.part) w) f)
     (c.own_finding-own.ensures ∙ ap (own_finding g.B.Bounds.most (handed c.args.context.now) c.args.part) c.in_ok-finding.ensures.noted
     ∙ own_noted g.B.Bounds.most (handed c.args.context.now) c.args.part w)

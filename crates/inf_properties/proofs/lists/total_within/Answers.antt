@@ -5,9 +5,7 @@ use Rattle.inf_properties.proofs.lists.total_within.Goals as goal
 
 pub loop-property-preserved : goal.loop-property-preserved
 loop-property-preserved c =
-    let ps = c.args.properties.now in
-    let i = c.loop-property.property-index in
-    let p = c.property-item.result in
+    let ps = c.args.properties.now in let i = c.loop-property.property-index in let p = c.property-item.result in
     let o = c.args.owner in
     let bytes = sum_step (λ q. (size_of o q).bytes) ps i p c.loop-property-test.true c.property-item.is in
     let fixups = sum_step (λ q. (size_of o q).fixups) ps i p c.loop-property-test.true c.property-item.is in

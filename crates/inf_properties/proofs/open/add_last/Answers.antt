@@ -13,9 +13,7 @@ returns-in_err-push-clause-at c = subst (AreAt 0 c.cover.new.places.items) (sym 
 
 pub returns-clause-at : goal.returns-clause-at
 returns-clause-at c =
-    let ps = c.args.properties.now.items in
-    let places = c.cover.new.places.items in
-    let p = c.args.property in
+    let ps = c.args.properties.now.items in let places = c.cover.new.places.items in let p = c.args.property in
     let count : length ps ≡ c.len-place.result = omega (arith, c.args.properties.now.ok.0) in
     let kept = AreAt-kept 0 c.args.places.now.items places ps c.cover.ensures.kept c.requires.at in
     subst (λ n. AreAt 0 (slice_set places p.number n) c.push.new.self.items) count

@@ -7,5 +7,4 @@ use Rattle.inf_reader.proofs.acting.act_each.Given as goal
 abbrev pub invariant-loop-action : goal.invariant-loop-action
 invariant-loop-action g l =
     acted g.B.Bounds.most (handed l.context) l.place (drop l.action-index l.actions) (work l.compilation) ≡ acted g.B.Bounds.most
-    (handed l.context) l.place l.actions
-    (work l.fn.compilation)
+    (handed l.context) l.place l.actions (work l.fn.compilation)

@@ -5,8 +5,7 @@ use Rattle.inf_settings.proofs.words.decimal_of.Goals as goal
 
 pub loop-byte-preserved : goal.loop-byte-preserved
 loop-byte-preserved c =
-    let ds = c.args.digits.now in
-    let i = c.loop-byte.byte-index in
+    let ds = c.args.digits.now in let i = c.loop-byte.byte-index in
     let next : c.saturating_add-number.result ≡ min (min (c.loop-byte.number * 10) greatest + (get_or ds i 0 - 48)) greatest =
     omega (arith, c.saturating_mul.ensures, c.saturating_add-number.ensures, c.from.ensures) in
     record {

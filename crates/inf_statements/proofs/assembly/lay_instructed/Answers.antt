@@ -13,8 +13,7 @@ lay_parts-requires-clause-named g c = λ names.
 
 pub lay_parts-requires-clause-plain : goal.lay_parts-requires-clause-plain
 lay_parts-requires-clause-plain g c = λ names. takes_operands c.args.opcode c.args.nodes.now c.args.roots.now
-    (is_some (first_variable g.B.Bounds.most (trees_from c.args.nodes.now c.args.roots.now)))
-    c.args.line.ends
+    (is_some (first_variable g.B.Bounds.most (trees_from c.args.nodes.now c.args.roots.now))) c.args.line.ends
     _ c.store-store.result c.in_ok-branch.branch refl
     c.store-store.ensures.there c.in_ok-branch.ensures.there c.requires.jumps c.requires.text
     (ap (λ (r : OpcodeRow). r.names_variable) (sym c.row-names_variable.ensures.exact) ∙ names) c.requires.fits

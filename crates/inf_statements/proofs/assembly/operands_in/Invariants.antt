@@ -7,5 +7,4 @@ use Rattle.inf_statements.proofs.assembly.operands_in.Given as goal
 abbrev pub invariant-loop-root : goal.invariant-loop-root
 invariant-loop-root g l =
     (l.operands.items ++ operands_in g.B.Bounds.most (trees_from l.nodes (drop l.root-index l.roots)) ≡ operands_in g.B.Bounds.most
-    (trees_from l.nodes l.roots))
-    × ((length l.operands.items ≡ l.root-index) × (length l.roots ≤ 8))
+    (trees_from l.nodes l.roots)) × ((length l.operands.items ≡ l.root-index) × (length l.roots ≤ 8))

@@ -7,5 +7,4 @@ use Rattle.inf_statements.proofs.statements.lay_attribute.Goals as goal
 pub returns-in-Some : goal.returns-in-Some
 returns-in-Some g c = subst (λ (code : Code). OnOk c.lay_instruction.result (c.lay_instruction.new.out ≡ code c.args.out.now))
     (first_attribute g.B.Bounds.most c.args.opcode (part_of g.B.Bounds.most c.args.nodes.now c.args.object) c.args.nodes.now
-    c.args.roots.now c.in-Some.root.now (search rules))
-    c.lay_instruction.ensures
+    c.args.roots.now c.in-Some.root.now (search rules)) c.lay_instruction.ensures

@@ -7,8 +7,7 @@ use Rattle.inf_syntax.proofs.atoms.place.Goals as goal
 
 pub returns-in-Some-clause-place : goal.returns-in-Some-clause-place
 returns-in-Some-clause-place c =
-    let s = c.args.spelling.now in
-    let l = c.in-Some.ensures.lookup in
+    let s = c.args.spelling.now in let l = c.in-Some.ensures.lookup in
     let is = placed s c.word_with-place.result (c.word_with-place.ensures ∙ ap (λ n. get_or all_slots n 72) c.slot_of.ensures) in
     let at =
     word_at (λ w. w.now) c.known_words.result.now c.word_with-place.result c.in-Some.word.now c.known_words.ensures.words l.3.0 l.1 in
@@ -17,8 +16,7 @@ returns-in-Some-clause-place c =
 
 pub returns-in-Some-2-clause-place : goal.returns-in-Some-2-clause-place
 returns-in-Some-2-clause-place c =
-    let s = c.args.spelling.now in
-    let l = c.in-Some.ensures.lookup in
+    let s = c.args.spelling.now in let l = c.in-Some.ensures.lookup in
     let is = placed s c.word_with-place.result (c.word_with-place.ensures ∙ ap (λ n. get_or all_slots n 72) c.slot_of.ensures) in
     let at =
     word_at (λ w. w.now) c.known_words.result.now c.word_with-place.result c.in-Some.word.now c.known_words.ensures.words l.3.0 l.1 in

@@ -7,8 +7,7 @@ use Rattle.inf_tables.proofs.laws.written_as_counted.Goals as goal
 
 pub returns-clause-bytes : goal.returns-clause-bytes
 returns-clause-bytes g c =
-    let objects = c.args.world.now.objects in
-    let same = c.objects-objects.ensures.value in
+    let objects = c.args.world.now.objects in let same = c.objects-objects.ensures.value in
     let totals = c.totals-totals.ensures in
     omega (
       arith,
@@ -25,8 +24,7 @@ returns-clause-bytes g c =
 
 pub returns-clause-later : goal.returns-clause-later
 returns-clause-later g c =
-    let objects = c.args.world.now.objects in
-    let same = c.objects-objects.ensures.value in
+    let objects = c.args.world.now.objects in let same = c.objects-objects.ensures.value in
     let totals = c.totals-totals.ensures in
     omega (
       arith,

@@ -6,12 +6,8 @@ use Rattle.inf_tables.proofs.totals.totals.Goals as goal
 
 pub loop-object-preserved : goal.loop-object-preserved
 loop-object-preserved c =
-    let most = c.args.most in
-    let objects = c.args.objects.now in
-    let place = c.loop-object.object-index in
-    let o = c.object-item.result in
-    let all = c.loop-object.all in
-    let m = c.measured-measure.result in
+    let most = c.args.most in let objects = c.args.objects.now in let place = c.loop-object.object-index in
+    let o = c.object-item.result in let all = c.loop-object.all in let m = c.measured-measure.result in
     let hung = subst (AreHung most) (left_is objects place o c.loop-object-test.true c.object-item.is) c.loop-object.invariant.hung in
     let next = left_next most objects place o all m c.loop-object-test.true c.object-item.is c.loop-object.invariant (record {
       counts = counts o m hung.1 c.measured-measure.ensures.counted;

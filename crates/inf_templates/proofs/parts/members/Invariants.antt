@@ -6,9 +6,7 @@ use Rattle.inf_templates.proofs.parts.members.Given as goal
 
 -- the tasks so far, behind the members that are left, lay all members and then the tasks of the start
 abbrev pub invariant-loop-a : goal.invariant-loop-a
-invariant-loop-a l =
-    ((limits : Limits) → (o : Out) →
-    tasks_code limits l.nodes l.tasks (evaluated (parts (at limits l.nodes l.left)) o)
+invariant-loop-a l = ((limits : Limits) → (o : Out) → tasks_code limits l.nodes l.tasks (evaluated (parts (at limits l.nodes l.left)) o)
     ≡ tasks_code limits l.nodes l.initial.tasks (evaluated (parts (at limits l.nodes l.list)) o))
     × (weights l.nodes l.tasks + load_at l.nodes l.left ≤ load_at l.nodes l.list + weights l.nodes l.initial.tasks)
 

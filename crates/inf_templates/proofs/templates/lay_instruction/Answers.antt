@@ -8,20 +8,17 @@ use Rattle.inf_templates.proofs.templates.lay_instruction.Goals as goal
 
 pub instruct-requires : goal.instruct-requires
 instruct-requires g c =
-    let nodes = c.args.nodes.now in
-    let arguments = c.args.arguments.now in
+    let nodes = c.args.nodes.now in let arguments = c.args.arguments.now in
     let few : length arguments ≤ c.from.result =
     omega (arith, c.requires.few, c.from.ensures, ap (λ (r : OpcodeRow). r.most) c.row.ensures.exact) in
     let all = c.deref.ensures.0 ∙ operands_all g.B.Bounds.most nodes c.from.result arguments c.operands-operands.result.items
     c.operands-operands.ensures few in
     subst (λ n. Takes c.args.opcode n (is_some c.args.store) (is_some c.args.branch))
-    (sym (ap length all ∙ operands_len g.B.Bounds.most nodes arguments))
-    c.requires
+    (sym (ap length all ∙ operands_len g.B.Bounds.most nodes arguments)) c.requires
 
 pub returns : goal.returns
 returns g c =
-    let nodes = c.args.nodes.now in
-    let arguments = c.args.arguments.now in
+    let nodes = c.args.nodes.now in let arguments = c.args.arguments.now in
     let few : length arguments ≤ c.from.result =
     omega (arith, c.requires.few, c.from.ensures, ap (λ (r : OpcodeRow). r.most) c.row.ensures.exact) in
     let all = c.deref.ensures.0 ∙ operands_all g.B.Bounds.most nodes c.from.result arguments c.operands-operands.result.items

@@ -6,5 +6,4 @@ use Rattle.inf_templates.proofs.templates.operands.Given as goal
 abbrev pub invariant-loop-argument : goal.invariant-loop-argument
 invariant-loop-argument g l =
     (l.operands.items ++ operands (parts_of g.B.Bounds.most l.nodes (drop l.argument-index l.argument-items)) ≡ operands
-    (parts_of g.B.Bounds.most l.nodes l.argument-items))
-    × (length l.operands.items + (length l.argument-items - l.argument-index) ≤ 8)
+    (parts_of g.B.Bounds.most l.nodes l.argument-items)) × (length l.operands.items + (length l.argument-items - l.argument-index) ≤ 8)

@@ -13,13 +13,11 @@ code_behind-code-requires-then-link-matched c =
 
 pub common_from-matched-requires-clause-items : goal.common_from-matched-requires-clause-items
 common_from-matched-requires-clause-items c =
-    let h = c.loop-link.invariant.1 in
-    omega (arith, h.matched_is, common-fits_left c.args.items.now h.before)
+    let h = c.loop-link.invariant.1 in omega (arith, h.matched_is, common-fits_left c.args.items.now h.before)
 
 pub common_from-matched-requires-clause-text : goal.common_from-matched-requires-clause-text
 common_from-matched-requires-clause-text c =
-    let others = c.in_ok-first.others.now in
-    let i = c.loop-link.link-index in
+    let others = c.in_ok-first.others.now in let i = c.loop-link.link-index in
     let l : Link = get_or others i (record { number = 0; next = 0; shared = 0; len = 0 }) in
     let next = Searches-next c.args.texts.now c.args.items.now c.loop-link.matched c.loop-link.best (drop i others) (drop (i + 1) others) l
     _ (drop_more others i _ c.loop-link-test.true) c.loop-link.invariant.1 in
@@ -32,9 +30,7 @@ common_from-matched-requires-clause-text c =
 
 pub loop-link-preserved : goal.loop-link-preserved
 loop-link-preserved c =
-    let texts = c.args.texts.now in
-    let items = c.args.items.now in
-    let others = c.in_ok-first.others.now in
+    let texts = c.args.texts.now in let items = c.args.items.now in let others = c.in_ok-first.others.now in
     let i = c.loop-link.link-index in
     let l : Link = get_or others i (record { number = 0; next = 0; shared = 0; len = 0 }) in
     let split : drop i others ≡ _ = drop_more others i (record { number = 0; next = 0; shared = 0; len = 0 }) c.loop-link-test.true in

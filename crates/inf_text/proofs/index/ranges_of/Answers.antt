@@ -9,11 +9,8 @@ loop-place-init c = AreRangesTo-none c.args.texts.now c.args.order.now _ c.no_ra
 
 pub loop-place-preserved : goal.loop-place-preserved
 loop-place-preserved c =
-    let texts = c.args.texts.now in
-    let order = c.args.order.now in
-    let place = c.loop-place.place in
-    let code = c.from-code.result in
-    let within = c.requires.numbers place c.loop-place-test.true in
+    let texts = c.args.texts.now in let order = c.args.order.now in let place = c.loop-place.place in
+    let code = c.from-code.result in let within = c.requires.numbers place c.loop-place-test.true in
     let text = text_is texts (get_or order place 0) c.from.result c.index-texts-from.result c.as_slice.result.now c.as_slice.ensures.value
     c.index-texts-from.is c.from.ensures within in
     let code_is : code ≡ code_at texts order place = c.from-code.ensures ∙ c.first_code.ensures ∙ ap first_code text in

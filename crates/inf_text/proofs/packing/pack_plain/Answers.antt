@@ -19,9 +19,7 @@ item_zs-requires c =
 
 pub loop-item-preserved : goal.loop-item-preserved
 loop-item-preserved c =
-    let items = c.as_slice-item-items.result.now in
-    let i = c.loop-item.item-index in
-    let x = c.item-item.result in
+    let items = c.as_slice-item-items.result.now in let i = c.loop-item.item-index in let x = c.item-item.result in
     plain-more (c.loop-item.bytes.items, c.loop-item.waiting) _ _ (drop i items) (drop (i + 1) items) items x
     (drop_more items i x c.loop-item-test.true ∙ ap (λ (y : TextItem). y ∷ drop (i + 1) items) (sym c.item-item.is))
     c.item_zs.ensures.value c.in_ok-waiting.ensures c.loop-item.invariant
@@ -29,8 +27,7 @@ loop-item-preserved c =
 pub returns-clause-bytes : goal.returns-clause-bytes
 unfolding packed
 returns-clause-bytes c =
-    let items = c.as_slice-item-items.result.now in
-    let past : length items ≤ c.loop-item.item-index = omega arith in
+    let items = c.as_slice-item-items.result.now in let past : length items ≤ c.loop-item.item-index = omega arith in
     let none : drop c.loop-item.item-index items ≡ [] = drop_all c.loop-item.item-index items past in
     let whole : completed (c.loop-item.bytes.items, c.loop-item.waiting) [] ≡ words (zs_from [] 0 c.args.text.now) =
     rw (← c.as_slice-item-items.ensures.value) (rw none at c.loop-item.invariant) in

@@ -10,13 +10,10 @@ use Rattle.inf_unit.proofs.names.tell_undeclared.Goals as goal
 
 pub loop-number-preserved : goal.loop-number-preserved
 loop-number-preserved g c =
-    let files = c.args.files.now.names in
-    let names = c.args.names.now.names in
-    let number = c.loop-number.number in
+    let files = c.args.files.now.names in let names = c.args.names.now.names in let number = c.loop-number.number in
     let before = c.loop-number.messages in
     let within : number < length names = omega (arith, c.loop-number-test.true, c.len-number-end.ensures.count) in
-    let told : c.match-use_at.messages ≡ told_of files (use_in (standing_at number names)) before =
-    elim c.match-use_at.branch [
+    let told : c.match-use_at.messages ≡ told_of files (use_in (standing_at number names)) before = elim c.match-use_at.branch [
       | in-Some+in_ok-error w ↦
           w.messages-is ∙ w.in_ok-error.ensures
           ∙ ap (λ (at : Location). with_error at at (Undeclared w.in-Some.spelling.now) before) w.location-at.ensures

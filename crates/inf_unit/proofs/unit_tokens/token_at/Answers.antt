@@ -14,27 +14,21 @@ part_of-requires-clause-there c =
 
 pub invariant_of-result-clause-is_seen : goal.invariant_of-result-clause-is_seen
 invariant_of-result-clause-is_seen c =
-    let ks = c.args.kept.now in
-    let bytes = c.args.bytes.now in
-    let k = c.in-Some.token.now in
+    let ks = c.args.kept.now in let bytes = c.args.bytes.now in let k = c.in-Some.token.now in
     let part = c.part_of.result.now in
     part_seen ks bytes part c.args.at k c.requires c.in-Some.ensures
     (part_is ks bytes part c.args.at k c.start_of.result c.end.result c.start_of.ensures c.end.ensures c.part_of.ensures)
 
 pub invariant_of-result-clause-is_short : goal.invariant_of-result-clause-is_short
 invariant_of-result-clause-is_short c =
-    let ks = c.args.kept.now in
-    let bytes = c.args.bytes.now in
-    let k = c.in-Some.token.now in
+    let ks = c.args.kept.now in let bytes = c.args.bytes.now in let k = c.in-Some.token.now in
     let part = c.part_of.result.now in
     part_short ks bytes part c.args.at k c.requires c.in-Some.ensures
     (part_is ks bytes part c.args.at k c.start_of.result c.end.result c.start_of.ensures c.end.ensures c.part_of.ensures)
 
 pub returns-in-Some : goal.returns-in-Some
 returns-in-Some c =
-    let ks = c.args.kept.now in
-    let bytes = c.args.bytes.now in
-    let k = c.in-Some.token.now in
+    let ks = c.args.kept.now in let bytes = c.args.bytes.now in let k = c.in-Some.token.now in
     let part = c.part_of.result.now in
     got ks bytes part c.args.at k c.place.result c.in-Some.ensures
     (part_is ks bytes part c.args.at k c.start_of.result c.end.result c.start_of.ensures c.end.ensures c.part_of.ensures) c.place.ensures

@@ -7,6 +7,5 @@ use Rattle.inf_verb_lines.proofs.lines.tokens_finding.Goals as goal
 
 pub loop-at-preserved : goal.loop-at-preserved
 loop-at-preserved g c = simp unary_clauses (
-    c.least_of_both-found.ensures
-    ∙ ap (λ f. least_of_both f c.token_finding.result) c.loop-at.invariant
+    c.least_of_both-found.ensures ∙ ap (λ f. least_of_both f c.token_finding.result) c.loop-at.invariant
     ∙ ap (λ f. least_of_both (tokens_finding c.loop-at.at c.args.tokens.now c.args.names.now) f) c.token_finding.ensures)

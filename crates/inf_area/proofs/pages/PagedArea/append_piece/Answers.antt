@@ -8,8 +8,7 @@ use Rattle.inf_area.proofs.pages.PagedArea.append_piece.Goals as goal
 pub returns-clause-ok : goal.returns-clause-ok
 returns-clause-ok c =
     let now = c.if-self-len.self-inside in
-    let count = c.min-count.result in
-    let piece = take count c.args.added.now in
+    let count = c.min-count.result in let piece = take count c.args.added.now in
     let before : (now.len + length piece ≤ length (page_bytes now.pages.items)) × (take now.len (page_bytes now.pages.items) ≡ c.args.self.now) =
     elim c.if-self-len.branch [
       | then-self-len+in_ok-add_page w ↦ rw w.self-inside-is (
@@ -42,5 +41,4 @@ returns-clause-ok c =
     take_written _ now.pages c.set_bytes.new.pages (c.set_bytes.auto.pages ∙ c.as_mut_slice.ensures.len)
     ∙ ap (take (now.len + count)) (c.set_bytes.ensures.bytes ∙ ap (λ ps. with_bytes (page_bytes ps) now.len piece) c.as_mut_slice.ensures.value)
     ∙ ap (λ n. take n (with_bytes (page_bytes now.pages.items) now.len piece)) long
-    ∙ take-with_bytes (page_bytes now.pages.items) now.len piece before.0
-    ∙ ap (λ xs. xs ++ piece) before.1
+    ∙ take-with_bytes (page_bytes now.pages.items) now.len piece before.0 ∙ ap (λ xs. xs ++ piece) before.1

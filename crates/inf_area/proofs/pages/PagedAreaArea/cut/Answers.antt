@@ -20,18 +20,11 @@ invariant_of-self c =
 
 pub returns : goal.returns
 returns c =
-    let now = c.args.self.now in
-    let at = c.args.at in
-    let n = c.args.n in
-    let end = c.len-end.result in
-    let bytes = page_bytes c.self.inside.pages.items in
-    let len = c.self.inside.len in
-    let left = end - (at + n) in
+    let now = c.args.self.now in let at = c.args.at in let n = c.args.n in let end = c.len-end.result in
+    let bytes = page_bytes c.self.inside.pages.items in let len = c.self.inside.len in let left = end - (at + n) in
     let known = c.self.view_is ∙ c.move_left.ensures in
     let whole : at + n + left ≡ length now = omega (arith, c.len-end.ensures.value, c.requires) in
     let kept = kept_of len end at n bytes now c.len-end.ensures.value c.requires known in
     let place : end - n ≡ at + left = omega (arith, c.len-end.ensures.value, c.requires) in
-    sym (take-take (end - n) len bytes kept)
-    ∙ ap (take (end - n)) known
-    ∙ ap (λ k. take k (moved at (at + n) left now)) place
+    sym (take-take (end - n) len bytes kept) ∙ ap (take (end - n)) known ∙ ap (λ k. take k (moved at (at + n) left now)) place
     ∙ take_moved at (at + n) left now (omega arith) whole

@@ -33,5 +33,4 @@ returns-clause-ok c =
     ] in
     take_written _ now.pages c.set_byte.new.pages (c.set_byte.auto.pages ∙ c.as_mut_slice.ensures.len)
     ∙ ap (take (now.len + 1)) (c.set_byte.ensures.bytes ∙ ap (λ ps. set (page_bytes ps) now.len c.args.byte) c.as_mut_slice.ensures.value)
-    ∙ take_more_set (page_bytes now.pages.items) now.len c.args.byte before.0
-    ∙ ap (λ xs. xs ++ c.args.byte ∷ []) before.1
+    ∙ take_more_set (page_bytes now.pages.items) now.len c.args.byte before.0 ∙ ap (λ xs. xs ++ c.args.byte ∷ []) before.1

@@ -1,13 +1,12 @@
-use Rattle.std.proofs.Common.{◌≡◌, ◌≤◌, ◌+◌, ◌*◌, rules, map, subst, sym, Some, ◌∙◌, arith, length, option_map}
+use Rattle.std.proofs.Common.{rules, map, subst, sym, Some, arith, length, option_map}
 use Rattle.inf_arrays.proofs.Sizes.{grown_stands}
-use Rattle.inf_arrays.specs.Arrays.{HasRoom, RoomIn, all_of, arrays_laters, arrays_size}
+use Rattle.inf_arrays.specs.Arrays.{HasRoom, RoomIn}
 use Rattle.inf_arrays.specs.Listing.{listed, seen}
 use Rattle.inf_arrays.proofs.arrays.Arrays.append.Goals as goal
 
 pub invariant_of-self-in-Some : goal.invariant_of-self-in-Some
 invariant_of-self-in-Some g c =
-    let a = listed c.in-Some.array in
-    let n = length c.args.values.now in
+    let a = listed c.in-Some.array in let n = length c.args.values.now in
     let room : HasRoom g.B.Bounds.most n (seen c.self.inside.closed.items c.self.inside.growing) =
     subst (HasRoom g.B.Bounds.most n) (sym c.self.view_is) c.requires in
     let room_in : RoomIn g.B.Bounds.most (option_map listed (Some c.in-Some.array)) n

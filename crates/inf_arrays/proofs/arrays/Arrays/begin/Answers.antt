@@ -1,6 +1,6 @@
-use Rattle.std.proofs.Common.{◌≡◌, ◌≤◌, ◌+◌, ◌++◌, ◌∙◌, None, ap, arith, rules, map, option_map, option_to_list, subst, sym}
+use Rattle.std.proofs.Common.{◌≤◌, ◌+◌, ◌++◌, ◌∙◌, ap, arith, rules, map, option_to_list, subst, sym}
 use Rattle.inf_arrays.proofs.Sizes.{opened_stands}
-use Rattle.inf_arrays.specs.{Arrays.all_of, Arrays.arrays_laters, Arrays.arrays_size, Kinds.count_size, Listing.listed, Listing.seen}
+use Rattle.inf_arrays.specs.{Arrays.all_of, Arrays.arrays_laters, Arrays.arrays_size, Kinds.count_size, Listing.listed}
 use Rattle.inf_settings.specs.declared.setting.Setting.{Setting}
 use Rattle.inf_arrays.proofs.arrays.Arrays.begin.Goals as goal
 

@@ -6,8 +6,7 @@ use Rattle.inf_assembler.proofs.routines.Routine.back.Goals as goal
 
 pub overflow_add-at : goal.overflow_add-at
 overflow_add-at g c =
-    let state = c.args.self.now in
-    let bytes = g.A.Area.bytes c.args.area.now in
+    let state = c.args.self.now in let bytes = g.A.Area.bytes c.args.area.now in
     omega (
       arith,
       back_within state bytes (take state.start bytes) (contents_of state bytes) c.requires.were.0 c.args.mark c.requires.open_still
@@ -20,11 +19,8 @@ overflow_add-at g c =
 
 pub returns : goal.returns
 returns g c = λ earlier were.
-    let state = c.args.self.now in
-    let bytes = g.A.Area.bytes c.args.area.now in
-    let new_bytes = g.A.Area.bytes c.cut.new.self in
-    let inside = c.self.inside in
-    let moment = c.mark.inside in
+    let state = c.args.self.now in let bytes = g.A.Area.bytes c.args.area.now in
+    let new_bytes = g.A.Area.bytes c.cut.new.self in let inside = c.self.inside in let moment = c.mark.inside in
     let new : State = record {
       start = inside.start;
       kept = c.truncate.new.self.items;

@@ -10,10 +10,8 @@ use Rattle.inf_assembler.proofs.routines.Routine.emit.Goals as goal
 
 pub returns-in-Some-clause-fault : goal.returns-in-Some-clause-fault
 returns-in-Some-clause-fault g c =
-    let state = c.args.self.now in
-    let bytes = g.A.Area.bytes c.args.area.now in
-    let parts = parts_of c.args.instruction.now in
-    let more = c.instruction_counts-more.result in
+    let state = c.args.self.now in let bytes = g.A.Area.bytes c.args.area.now in
+    let parts = parts_of c.args.instruction.now in let more = c.instruction_counts-more.result in
     let counted = c.instruction_counts-more.ensures.value in
     let all =
     full_is parts state bytes c.args.refs.now c.len.result (length c.args.instruction.now.text.now) more counted refl c.len.ensures.value in
@@ -21,10 +19,8 @@ returns-in-Some-clause-fault g c =
 
 pub returns-in_err-append_instruction-clause-fault : goal.returns-in_err-append_instruction-clause-fault
 returns-in_err-append_instruction-clause-fault g c =
-    let state = c.args.self.now in
-    let bytes = g.A.Area.bytes c.args.area.now in
-    let parts = parts_of c.args.instruction.now in
-    let more = c.instruction_counts-more.result in
+    let state = c.args.self.now in let bytes = g.A.Area.bytes c.args.area.now in
+    let parts = parts_of c.args.instruction.now in let more = c.instruction_counts-more.result in
     let counted = c.instruction_counts-more.ensures.value in
     let all =
     full_is parts state bytes c.args.refs.now c.len.result (length c.args.instruction.now.text.now) more counted refl c.len.ensures.value in
@@ -34,10 +30,8 @@ returns-in_err-append_instruction-clause-fault g c =
 
 pub returns-clause-fault : goal.returns-clause-fault
 returns-clause-fault g c =
-    let state = c.args.self.now in
-    let bytes = g.A.Area.bytes c.args.area.now in
-    let parts = parts_of c.args.instruction.now in
-    let more = c.instruction_counts-more.result in
+    let state = c.args.self.now in let bytes = g.A.Area.bytes c.args.area.now in
+    let parts = parts_of c.args.instruction.now in let more = c.instruction_counts-more.result in
     let counted = c.instruction_counts-more.ensures.value in
     let all =
     full_is parts state bytes c.args.refs.now c.len.result (length c.args.instruction.now.text.now) more counted refl c.len.ensures.value in
@@ -45,17 +39,13 @@ returns-clause-fault g c =
 
 pub returns-clause-ok : goal.returns-clause-ok
 returns-clause-ok g c =
-    let state = c.args.self.now in
-    let bytes = g.A.Area.bytes c.args.area.now in
-    let parts = parts_of c.args.instruction.now in
-    let more = c.instruction_counts-more.result in
+    let state = c.args.self.now in let bytes = g.A.Area.bytes c.args.area.now in
+    let parts = parts_of c.args.instruction.now in let more = c.instruction_counts-more.result in
     let counted = c.instruction_counts-more.ensures.value in
     let all =
     full_is parts state bytes c.args.refs.now c.len.result (length c.args.instruction.now.text.now) more counted refl c.len.ensures.value in
-    let inside = c.self.inside in
-    let new_bytes = g.A.Area.bytes c.append_instruction.new.area in
-    let new_kept = c.append_instruction.new.kept.items in
-    let cells = instruction_cells parts in
+    let inside = c.self.inside in let new_bytes = g.A.Area.bytes c.append_instruction.new.area in
+    let new_kept = c.append_instruction.new.kept.items in let cells = instruction_cells parts in
     let new : State = record {
       start = inside.start;
       kept = new_kept;

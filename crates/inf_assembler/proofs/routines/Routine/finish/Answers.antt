@@ -14,17 +14,13 @@ use Rattle.inf_assembler.proofs.routines.Routine.finish.Goals as goal
 
 pub returns-in-Some-clause-fault : goal.returns-in-Some-clause-fault
 returns-in-Some-clause-fault g c =
-    let state = c.args.self.now in
-    let bytes = g.A.Area.bytes c.args.area.now in
-    let contents = contents_of state bytes in
-    let start = state.start in
-    let stands = c.requires.open_still in
+    let state = c.args.self.now in let bytes = g.A.Area.bytes c.args.area.now in
+    let contents = contents_of state bytes in let start = state.start in let stands = c.requires.open_still in
     let kept = c.as_slice-kept.result.now in
     let is : kept ≡ kept_from (start + 1) contents.cells =
     c.as_slice-kept.ensures.value ∙ ap (λ (s : State). s.kept) c.self.view_is ∙ stands.kept
     ∙ ap (λ k. kept_from (k + 1) contents.cells) (sym stands.start) in
-    let long = c.in_ok-long.long.items in
-    let long_e = long_is start contents kept is long c.in_ok-long.ensures in
+    let long = c.in_ok-long.long.items in let long_e = long_is start contents kept is long c.in_ok-long.ensures in
     let missing_e : missing (long_places start contents) contents.cells ≡ c.first_missing.result =
     sym (c.first_missing.ensures ∙ ap (λ xs. kept_missing (found xs) kept) c.as_slice.ensures.value ∙ missing_is start contents kept is long
     long_e) in
@@ -32,17 +28,13 @@ returns-in-Some-clause-fault g c =
 
 pub returns-in-Some-2-clause-fault : goal.returns-in-Some-2-clause-fault
 returns-in-Some-2-clause-fault g c =
-    let state = c.args.self.now in
-    let bytes = g.A.Area.bytes c.args.area.now in
-    let contents = contents_of state bytes in
-    let start = state.start in
-    let stands = c.requires.open_still in
+    let state = c.args.self.now in let bytes = g.A.Area.bytes c.args.area.now in
+    let contents = contents_of state bytes in let start = state.start in let stands = c.requires.open_still in
     let kept = c.as_slice-kept.result.now in
     let is : kept ≡ kept_from (start + 1) contents.cells =
     c.as_slice-kept.ensures.value ∙ ap (λ (s : State). s.kept) c.self.view_is ∙ stands.kept
     ∙ ap (λ k. kept_from (k + 1) contents.cells) (sym stands.start) in
-    let long = c.in_ok-long.long.items in
-    let long_e = long_is start contents kept is long c.in_ok-long.ensures in
+    let long = c.in_ok-long.long.items in let long_e = long_is start contents kept is long c.in_ok-long.ensures in
     let missing_e : missing (long_places start contents) contents.cells ≡ c.first_missing.result =
     sym (c.first_missing.ensures ∙ ap (λ xs. kept_missing (found xs) kept) c.as_slice.ensures.value ∙ missing_is start contents kept is long
     long_e) in
@@ -52,11 +44,8 @@ returns-in-Some-2-clause-fault g c =
 
 pub squeeze-requires : goal.squeeze-requires
 squeeze-requires g c =
-    let state = c.args.self.now in
-    let bytes = g.A.Area.bytes c.args.area.now in
-    let contents = contents_of state bytes in
-    let start = state.start in
-    let stands = c.requires.open_still in
+    let state = c.args.self.now in let bytes = g.A.Area.bytes c.args.area.now in
+    let contents = contents_of state bytes in let start = state.start in let stands = c.requires.open_still in
     let kept = c.as_slice-kept.result.now in
     let is : kept ≡ kept_from (start + 1) contents.cells =
     c.as_slice-kept.ensures.value ∙ ap (λ (s : State). s.kept) c.self.view_is ∙ stands.kept
@@ -69,17 +58,13 @@ overflow_add-self-inside g c = omega (arith, c.self.invariant)
 
 pub returns-in-None-clause-fault : goal.returns-in-None-clause-fault
 returns-in-None-clause-fault g c =
-    let state = c.args.self.now in
-    let bytes = g.A.Area.bytes c.args.area.now in
-    let contents = contents_of state bytes in
-    let start = state.start in
-    let stands = c.requires.open_still in
+    let state = c.args.self.now in let bytes = g.A.Area.bytes c.args.area.now in
+    let contents = contents_of state bytes in let start = state.start in let stands = c.requires.open_still in
     let kept = c.as_slice-kept.result.now in
     let is : kept ≡ kept_from (start + 1) contents.cells =
     c.as_slice-kept.ensures.value ∙ ap (λ (s : State). s.kept) c.self.view_is ∙ stands.kept
     ∙ ap (λ k. kept_from (k + 1) contents.cells) (sym stands.start) in
-    let long = c.in_ok-long.long.items in
-    let long_e = long_is start contents kept is long c.in_ok-long.ensures in
+    let long = c.in_ok-long.long.items in let long_e = long_is start contents kept is long c.in_ok-long.ensures in
     let missing_e : missing (long_places start contents) contents.cells ≡ c.first_missing.result =
     sym (c.first_missing.ensures ∙ ap (λ xs. kept_missing (found xs) kept) c.as_slice.ensures.value ∙ missing_is start contents kept is long
     long_e) in
@@ -103,17 +88,13 @@ returns-in-None-clause-fault g c =
 
 pub returns : goal.returns
 returns g c =
-    let state = c.args.self.now in
-    let bytes = g.A.Area.bytes c.args.area.now in
-    let contents = contents_of state bytes in
-    let start = state.start in
-    let stands = c.requires.open_still in
+    let state = c.args.self.now in let bytes = g.A.Area.bytes c.args.area.now in
+    let contents = contents_of state bytes in let start = state.start in let stands = c.requires.open_still in
     let kept = c.as_slice-kept.result.now in
     let is : kept ≡ kept_from (start + 1) contents.cells =
     c.as_slice-kept.ensures.value ∙ ap (λ (s : State). s.kept) c.self.view_is ∙ stands.kept
     ∙ ap (λ k. kept_from (k + 1) contents.cells) (sym stands.start) in
-    let long = c.in_ok-long.long.items in
-    let long_e = long_is start contents kept is long c.in_ok-long.ensures in
+    let long = c.in_ok-long.long.items in let long_e = long_is start contents kept is long c.in_ok-long.ensures in
     let missing_e : missing (long_places start contents) contents.cells ≡ c.first_missing.result =
     sym (c.first_missing.ensures ∙ ap (λ xs. kept_missing (found xs) kept) c.as_slice.ensures.value ∙ missing_is start contents kept is long
     long_e) in
@@ -131,8 +112,7 @@ returns g c =
     ∙ ap (λ xs. squeezed (found xs) (found c.as_slice-4.result.now) (start + 1) (start + 1) kept bytes) c.as_slice-3.ensures.value
     ∙ ap (λ xs. squeezed (found long) (found xs) (start + 1) (start + 1) kept bytes) c.as_slice-4.ensures.value
     ∙ squeezed_is start contents kept is long table bytes (take start bytes) long_e places_e stands.start stands.bytes in
-    let head = take start bytes ++ contents.locals ∷ [] in
-    let squeezed_bytes = g.A.Area.bytes c.squeeze.new.area in
+    let head = take start bytes ++ contents.locals ∷ [] in let squeezed_bytes = g.A.Area.bytes c.squeeze.new.area in
     let done =
     with_some_of (λ rest. head ++ rest) (body_bytes start contents) squeezed_bytes (sym squeezed_e ∙ c.in-Some-squeeze.ensures.bytes) in
     let is_state : state.kept ≡ kept_from (start + 1) contents.cells =
@@ -152,8 +132,7 @@ returns g c =
     ∙ ap (end_fault state.is_final state.limits (length squeezed_bytes) c.args.refs.now) counted in
     let P : Option CloseFault → Type 0 =
     λ f. MatchResult c.finish_end.result (λ _. f ≡ None) (λ refused. (refused ≡ CloseFault.Memory) ⊎ (f ≡ Some refused)) in
-    let more = c.self.inside.start + 1 in
-    let grown = c.finish_end.ensures.grown in
+    let more = c.self.inside.start + 1 in let grown = c.finish_end.ensures.grown in
     record {
       ok = both_ok c.finish_end.result c.finish_end.ensures.bytes c.finish_end.ensures.fixups (λ written listed. record {
         body = done.0;

@@ -8,9 +8,7 @@ use Rattle.inf_assembler.proofs.routines.Routine.label.Goals as goal
 
 pub returns-clause-ok : goal.returns-clause-ok
 returns-clause-ok g c =
-    let state = c.args.self.now in
-    let bytes = g.A.Area.bytes c.args.area.now in
-    let inside = c.self.inside in
+    let state = c.args.self.now in let bytes = g.A.Area.bytes c.args.area.now in let inside = c.self.inside in
     let new : State = record {
       start = inside.start;
       kept = c.push.new.self.items;

@@ -7,14 +7,9 @@ use Rattle.inf_assembler.proofs.routines.Routine.mark.Goals as goal
 
 pub returns : goal.returns
 returns g c =
-    let state = c.args.self.now in
-    let bytes = g.A.Area.bytes c.args.area.now in
-    let contents = contents_of state bytes in
-    let front = take state.start bytes in
-    let stands = c.requires in
-    let inside = c.self.inside in
-    let is = c.self.view_is in
-    let all = moment_of contents in
+    let state = c.args.self.now in let bytes = g.A.Area.bytes c.args.area.now in
+    let contents = contents_of state bytes in let front = take state.start bytes in let stands = c.requires in
+    let inside = c.self.inside in let is = c.self.view_is in let all = moment_of contents in
     let make : ℕ → ℕ → ℕ → ℕ → Bool → Moment = λ l k a h f. record { len = l; kept = k; labels = a; fixups = h; is_final = f } in
     let len : c.len.result - inside.start ≡ all.len = omega (
       arith,

@@ -6,8 +6,7 @@ use Rattle.inf_assembler.proofs.routines.Routine.open.Goals as goal
 
 pub returns-clause-open_now : goal.returns-clause-open_now
 returns-clause-open_now g c =
-    let old = g.A.Area.bytes c.args.area.now in
-    let new = g.A.Area.bytes c.push.new.self in
+    let old = g.A.Area.bytes c.args.area.now in let new = g.A.Area.bytes c.push.new.self in
     let state : State =
     record { start = c.len-start.result; kept = c.new.result.items; labels = 0; fixups = 0; is_final = false; limits = c.args.limits } in
     let stands : Stands state new old (fresh c.args.locals) = record {

@@ -11,56 +11,38 @@ use Rattle.inf_calls.proofs.cx.Cx.end_constant.Goals as goal
 
 pub returns-in_err-told-clause-cut : goal.returns-in_err-told-clause-cut
 returns-in_err-told-clause-cut g c =
-    let before = c.args.self.now.session in
-    let o = chosen before.setup in
+    let before = c.args.self.now.session in let o = chosen before.setup in
     let e : c.from_residual.result ≡ Err (UnitFault.Lost Fault.Memory) = search rules in
     subst (λ (a : Result Value UnitFault). EndsCut g.M.Sink (constant_ended g.B.Bounds.most o) c.args.messages.now c.args.messages.now
-    before a)
-    (sym e)
-    (λ sources start now. none_cut (constant_carried g.B.Bounds.most o) constant_answer (state sources start now before)
+    before a) (sym e) (λ sources start now. none_cut (constant_carried g.B.Bounds.most o) constant_answer (state sources start now before)
     (g.M.Sink.taken c.args.messages.now) (λ s. refl) (λ told. refl))
 
 pub returns-in_err-tell-clause-ended : goal.returns-in_err-tell-clause-ended
 returns-in_err-tell-clause-ended g c =
-    let before = c.args.self.now.session in
-    let mid = c.carry_out_constant.new.session in
-    let after = c.tell.new.self.session in
-    let o = chosen before.setup in
-    let f = c.in_err-tell.field-0.0 in
+    let before = c.args.self.now.session in let mid = c.carry_out_constant.new.session in
+    let after = c.tell.new.self.session in let o = chosen before.setup in let f = c.in_err-tell.field-0.0 in
     let e : c.from_residual-in_err-tell.result ≡ Err f = search rules in
     subst (λ (a : Result Value UnitFault). Ends g.M.Sink (constant_ended g.B.Bounds.most o) c.args.messages.now c.tell.new.messages
-    before after a)
-    (sym e)
-    (λ sources start now kept. carried_calls (constant_carried g.B.Bounds.most o) constant_answer c.in_ok-told.told
+    before after a) (sym e) (λ sources start now kept. carried_calls (constant_carried g.B.Bounds.most o) constant_answer c.in_ok-told.told
     (state sources start now before) (state sources start now mid) (state sources start now after) (Err f) (Err f)
     (g.M.Sink.taken c.args.messages.now) (g.M.Sink.taken c.tell.new.messages) (λ s. refl)
     (c.in_ok-told.ensures.ended sources start now) (c.in_err-tell.ensures.tells sources start now kept))
 
 pub returns-in_err-tell-clause-cut : goal.returns-in_err-tell-clause-cut
 returns-in_err-tell-clause-cut g c =
-    let before = c.args.self.now.session in
-    let mid = c.carry_out_constant.new.session in
-    let o = chosen before.setup in
-    let f = c.in_err-tell.field-0.0 in
-    let e : c.from_residual-in_err-tell.result ≡ Err f = search rules in
+    let before = c.args.self.now.session in let mid = c.carry_out_constant.new.session in let o = chosen before.setup in
+    let f = c.in_err-tell.field-0.0 in let e : c.from_residual-in_err-tell.result ≡ Err f = search rules in
     subst (λ (a : Result Value UnitFault). EndsCut g.M.Sink (constant_ended g.B.Bounds.most o) c.args.messages.now c.tell.new.messages
-    before a)
-    (sym e)
-    (λ sources start now. if_failure f _ _ (λ fault cut. carried_cut (constant_carried g.B.Bounds.most o) constant_answer
-    c.in_ok-told.told
-    (state sources start now before) (state sources start now mid) (g.M.Sink.taken c.args.messages.now)
-    (g.M.Sink.taken c.tell.new.messages) (c.in_ok-told.ensures.ended sources start now) cut)
-    (c.in_err-tell.ensures.cut sources start now))
+    before a) (sym e) (λ sources start now. if_failure f _ _ (λ fault cut. carried_cut (constant_carried g.B.Bounds.most o) constant_answer
+    c.in_ok-told.told (state sources start now before) (state sources start now mid) (g.M.Sink.taken c.args.messages.now)
+    (g.M.Sink.taken c.tell.new.messages) (c.in_ok-told.ensures.ended sources start now) cut) (c.in_err-tell.ensures.cut sources start now))
 
 pub returns-clause-ended : goal.returns-clause-ended
 returns-clause-ended g c =
-    let before = c.args.self.now.session in
-    let mid = c.carry_out_constant.new.session in
-    let after = c.tell.new.self.session in
-    let o = chosen before.setup in
+    let before = c.args.self.now.session in let mid = c.carry_out_constant.new.session in
+    let after = c.tell.new.self.session in let o = chosen before.setup in
     subst (λ (a : Result Value UnitFault). Ends g.M.Sink (constant_ended g.B.Bounds.most o) c.args.messages.now c.tell.new.messages
-    before after a)
-    (sym c.answer_constant.ensures)
+    before after a) (sym c.answer_constant.ensures)
     (λ sources start now kept. carried_calls (constant_carried g.B.Bounds.most o) constant_answer c.in_ok-told.told
     (state sources start now before) (state sources start now mid) (state sources start now after) (Ok c.in_ok-tell.field-0)
     (constant_answer c.in_ok-told.told) (g.M.Sink.taken c.args.messages.now) (g.M.Sink.taken c.tell.new.messages) (λ s. refl)

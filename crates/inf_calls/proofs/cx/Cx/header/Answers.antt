@@ -13,8 +13,7 @@ use Rattle.inf_calls.proofs.cx.Cx.header.Goals as goal
 
 pub returns-in_err-check-clause-called : goal.returns-in_err-check-clause-called
 returns-in_err-check-clause-called g c =
-    let before = c.args.self.now.session in
-    let fault = c.in_err-check.field-0.0 in
+    let before = c.args.self.now.session in let fault = c.in_err-check.field-0.0 in
     let r : refusal before ≡ Err fault = sym c.in_err-check.ensures in
     let e : c.from_residual.result ≡ Err fault = search rules in
     called_refused g.F.Files g.M.Sink c.args.files.now c.args.messages.now before fault c.from_residual.result r e
@@ -22,8 +21,7 @@ returns-in_err-check-clause-called g c =
 
 pub returns-clause-called : goal.returns-clause-called
 returns-clause-called g c =
-    let before = c.args.self.now.session in
-    let after = c.read_faultless.new.self.session in
+    let before = c.args.self.now.session in let after = c.read_faultless.new.self.session in
     let p = record before.progress { work = c.begin_piece.new.self } in
     let first : State → State = λ s. record s { work = piece_begun s.work } in
     let going : ((before.is_over || (before.progress.work.report.counts.is_over || is_mode_ended before.progress.reader.mode)) ≡ false)
@@ -32,8 +30,7 @@ returns-clause-called g c =
     c.begin_piece.ensures ∙ h in
     let is_first : (sources : Sources) → (start now : Openings) → (told : List ℕ)
     → state sources start now (record before { progress = p }) told ≡ first (state sources start now before told) =
-    λ sources start now told. ap (λ (w : Compilation). record (state sources start now before told) { work = w })
-    c.begin_piece.ensures in
+    λ sources start now told. ap (λ (w : Compilation). record (state sources start now before told) { work = w }) c.begin_piece.ensures in
     let called = c.read_faultless.ensures.called in
     record {
       answers = reads_answers g.F.Files g.M.Sink g.B.Bounds.most c.args.files.now c.read_faultless.new.files c.args.messages.now

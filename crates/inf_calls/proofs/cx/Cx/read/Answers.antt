@@ -8,8 +8,7 @@ pub returns-in_err-step-clause-fails : goal.returns-in_err-step-clause-fails
 returns-in_err-step-clause-fails g c =
     let e : c.from_residual.result ≡ Err (UnitFault.Lost c.in_err-step.field-0.0) = search rules in
     subst (λ (a : Result Bool UnitFault). ReadFails g.F.Files g.M.Sink g.B.Bounds.most (λ s. s) c.args.files.now c.step.new.files
-    c.args.messages.now c.step.new.messages c.args.self.now.session c.step.new.self a) (sym e)
-    (λ going honest start nested.
+    c.args.messages.now c.step.new.messages c.args.self.now.session c.step.new.self a) (sym e) (λ going honest start nested.
     let h = c.in_err-step.ensures.called.broken honest start nested going in
     record { turns = h.turns; cut = h.cut; others = h.others; opened = h.opened; unread = h.unread })
 
@@ -17,8 +16,7 @@ pub returns-in_err-step-clause-stays : goal.returns-in_err-step-clause-stays
 returns-in_err-step-clause-stays g c =
     let e : c.from_residual.result ≡ Err (UnitFault.Lost c.in_err-step.field-0.0) = search rules in
     subst (λ (a : Result Bool UnitFault). Stays g.F.Files c.args.files.now c.step.new.files c.args.self.now.session c.step.new.self a)
-    (sym e)
-    (record {
+    (sym e) (record {
       went = c.step.ensures.called.went;
       is_open = c.step.ensures.is_open;
       set = c.step.ensures.set;
@@ -31,8 +29,7 @@ pub returns-in_err-step-clause-fault : goal.returns-in_err-step-clause-fault
 returns-in_err-step-clause-fault g c =
     let e : c.from_residual.result ≡ Err (UnitFault.Lost c.in_err-step.field-0.0) = search rules in
     subst (λ (a : Result Bool UnitFault). HasCause g.F.Files g.M.Sink c.args.files.now c.step.new.files c.args.messages.now
-    c.step.new.messages
-    c.args.self.now.session c.step.new.self a) (sym e) c.in_err-step.ensures.called.cause
+    c.step.new.messages c.args.self.now.session c.step.new.self a) (sym e) c.in_err-step.ensures.called.cause
 
 pub returns-in_err-step-clause-adds : goal.returns-in_err-step-clause-adds
 returns-in_err-step-clause-adds g c =
@@ -42,9 +39,7 @@ returns-in_err-step-clause-adds g c =
 
 pub returns-then-is_over-clause-reads : goal.returns-then-is_over-clause-reads
 returns-then-is_over-clause-reads g c = λ going honest start nested kept.
-    let files = g.F.Files in
-    let s = files.sources c.args.files.now in
-    let o = chosen c.args.self.now.session.setup in
+    let files = g.F.Files in let s = files.sources c.args.files.now in let o = chosen c.args.self.now.session.setup in
     let was = state s start (files.openings c.args.files.now) c.args.self.now.session in
     let now = state s start (files.openings c.step.new.files) c.step.new.self in
     let p = c.in_ok-step.ensures.called.made honest start nested going in
@@ -62,9 +57,7 @@ returns-then-is_over-clause-reads g c = λ going honest start nested kept.
 
 pub returns-clause-reads : goal.returns-clause-reads
 returns-clause-reads g c = λ going honest start nested kept.
-    let files = g.F.Files in
-    let s = files.sources c.args.files.now in
-    let o = chosen c.args.self.now.session.setup in
+    let files = g.F.Files in let s = files.sources c.args.files.now in let o = chosen c.args.self.now.session.setup in
     let was = state s start (files.openings c.args.files.now) c.args.self.now.session in
     let now = state s start (files.openings c.step.new.files) c.step.new.self in
     let p = c.in_ok-step.ensures.called.made honest start nested going in
@@ -77,8 +70,7 @@ returns-clause-reads g c = λ going honest start nested kept.
       p.0,
       (
         part_calls g.B.Bounds.most s o p.0 was now (g.M.Sink.taken c.args.messages.now) (g.M.Sink.taken c.step.new.messages) errors
-            (Ok (nat_lt c.errors-before.result c.errors.result)) (λ told. refl)
-            (λ told. ap (λ (b : Bool). Ok b) (before ∙ behind)
+            (Ok (nat_lt c.errors-before.result c.errors.result)) (λ told. refl) (λ told. ap (λ (b : Bool). Ok b) (before ∙ behind)
             ∙ ap (λ (b : Bool). cond b (Err UnitFault.Fatal) (Ok (nat_lt errors counts.errors))) (sym over)) p.1.0,
         p.1.1,
       ),

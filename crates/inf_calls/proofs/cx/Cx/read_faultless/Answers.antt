@@ -9,14 +9,11 @@ use Rattle.inf_calls.proofs.cx.Cx.read_faultless.Goals as goal
 
 pub returns-in_err-read_text-clause-called : goal.returns-in_err-read_text-clause-called
 returns-in_err-read_text-clause-called g c =
-    let before = c.args.self.now.session in
-    let after = c.read_text.new.self.session in
-    let begin = begun_with_rule c.args.rule in
-    let fault = c.in_err-read_text.field-0.0 in
+    let before = c.args.self.now.session in let after = c.read_text.new.self.session in
+    let begin = begun_with_rule c.args.rule in let fault = c.in_err-read_text.field-0.0 in
     let e : c.from_residual.result ≡ Err fault = search rules in
     called_failed g.F.Files g.M.Sink c.args.files.now c.read_text.new.files c.args.messages.now c.read_text.new.messages before after fault
-    c.from_residual.result e
-    (subst (λ (a : Result ⊤ UnitFault). Reads g.F.Files g.M.Sink g.B.Bounds.most begin
+    c.from_residual.result e (subst (λ (a : Result ⊤ UnitFault). Reads g.F.Files g.M.Sink g.B.Bounds.most begin
     (λ sources o turns s. faultless_read g.B.Bounds.most sources o turns (begin s)) c.args.files.now c.read_text.new.files c.args.messages.now
     c.read_text.new.messages before after a) (sym e)
     (reads_failed g.F.Files g.M.Sink g.B.Bounds.most c.args.files.now c.read_text.new.files c.args.messages.now c.args.messages.now
@@ -28,8 +25,7 @@ returns-in_err-read_text-clause-called g c =
 
 pub returns-then-branch-clause-called : goal.returns-then-branch-clause-called
 returns-then-branch-clause-called g c =
-    let before = c.args.self.now.session in
-    let after = c.read_text.new.self.session in
+    let before = c.args.self.now.session in let after = c.read_text.new.self.session in
     let begin = begun_with_rule c.args.rule in
     let told : c.in_ok-read_text.field-0 ≡ true = c.if-branch.true in
     called_told g.F.Files g.M.Sink c.args.files.now c.read_text.new.files c.args.messages.now c.read_text.new.messages before after
@@ -42,8 +38,7 @@ returns-then-branch-clause-called g c =
 
 pub returns-clause-called : goal.returns-clause-called
 returns-clause-called g c =
-    let before = c.args.self.now.session in
-    let after = c.read_text.new.self.session in
+    let before = c.args.self.now.session in let after = c.read_text.new.self.session in
     let begin = begun_with_rule c.args.rule in
     let told : c.in_ok-read_text.field-0 ≡ false = c.if-branch.false in
     called_told g.F.Files g.M.Sink c.args.files.now c.read_text.new.files c.args.messages.now c.read_text.new.messages before after

@@ -10,14 +10,11 @@ use Rattle.inf_calls.proofs.cx.Cx.read_whole.Goals as goal
 
 pub returns-in_err-read_text-clause-called : goal.returns-in_err-read_text-clause-called
 returns-in_err-read_text-clause-called g c =
-    let before = c.args.self.now.session in
-    let after = c.read_text.new.self.session in
-    let begin = begun_with_rule c.args.rule in
-    let fault = c.in_err-read_text.field-0.0 in
+    let before = c.args.self.now.session in let after = c.read_text.new.self.session in
+    let begin = begun_with_rule c.args.rule in let fault = c.in_err-read_text.field-0.0 in
     let e : c.from_residual.result ≡ Err fault = search rules in
     called_failed g.F.Files g.M.Sink c.args.files.now c.read_text.new.files c.args.messages.now c.read_text.new.messages before after fault
-    c.from_residual.result e
-    (subst (λ (a : Result ⊤ UnitFault). Reads g.F.Files g.M.Sink g.B.Bounds.most begin
+    c.from_residual.result e (subst (λ (a : Result ⊤ UnitFault). Reads g.F.Files g.M.Sink g.B.Bounds.most begin
     (λ sources o turns s. whole_read g.B.Bounds.most sources o turns (begin s)) c.args.files.now c.read_text.new.files c.args.messages.now
     c.read_text.new.messages before after a) (sym e)
     (reads_failed g.F.Files g.M.Sink g.B.Bounds.most c.args.files.now c.read_text.new.files c.args.messages.now c.args.messages.now
@@ -29,10 +26,8 @@ returns-in_err-read_text-clause-called g c =
 
 pub returns-then-is_none-clause-called : goal.returns-then-is_none-clause-called
 returns-then-is_none-clause-called g c =
-    let before = c.args.self.now.session in
-    let after = c.read_text.new.self.session in
-    let begin = begun_with_rule c.args.rule in
-    let none : is_none after.progress.work.unit.held ≡ true = search rules in
+    let before = c.args.self.now.session in let after = c.read_text.new.self.session in
+    let begin = begun_with_rule c.args.rule in let none : is_none after.progress.work.unit.held ≡ true = search rules in
     called_told g.F.Files g.M.Sink c.args.files.now c.read_text.new.files c.args.messages.now c.read_text.new.messages before after
     c.in_ok-read_text.field-0 (Err UnitFault.Syntax) refl
     (reads_at g.F.Files g.M.Sink g.B.Bounds.most c.args.files.now c.read_text.new.files c.args.messages.now c.args.messages.now
@@ -44,15 +39,13 @@ returns-then-is_none-clause-called g c =
 
 pub returns-clause-called : goal.returns-clause-called
 returns-clause-called g c =
-    let before = c.args.self.now.session in
-    let after = c.read_text.new.self.session in
+    let before = c.args.self.now.session in let after = c.read_text.new.self.session in
     let begin = begun_with_rule c.args.rule in
     let none : is_none after.progress.work.unit.held ≡ false = search rules in
     called_told g.F.Files g.M.Sink c.args.files.now c.read_text.new.files c.args.messages.now c.read_text.new.messages before after
     c.in_ok-read_text.field-0 (Ok tt) refl
     (reads_at g.F.Files g.M.Sink g.B.Bounds.most c.args.files.now c.read_text.new.files c.args.messages.now c.args.messages.now
     c.read_text.new.messages before before after begin (λ sources o turns s. part_read g.B.Bounds.most sources o turns (begin s)) whole
-    c.in_ok-read_text.field-0 (Ok tt)
-    (λ sources start now told. ap (λ (a : Result ⊤ UnitFault). (state sources start now after told, a))
+    c.in_ok-read_text.field-0 (Ok tt) (λ sources start now told. ap (λ (a : Result ⊤ UnitFault). (state sources start now after told, a))
     (waits after.progress.work.unit.held none))
     c.in_ok-read_text.ensures.called.answers) (λ going honest start nested. tt) c.in_ok-read_text.ensures.called

@@ -10,8 +10,7 @@ use Rattle.inf_calls.proofs.cx.Cx.routine_body.Goals as goal
 
 pub returns-in_err-check-clause-called : goal.returns-in_err-check-clause-called
 returns-in_err-check-clause-called g c =
-    let before = c.args.self.now.session in
-    let fault = c.in_err-check.field-0.0 in
+    let before = c.args.self.now.session in let fault = c.in_err-check.field-0.0 in
     let r : refusal before ≡ Err fault = sym c.in_err-check.ensures in
     let e : c.from_residual.result ≡ Err fault = search rules in
     called_refused g.F.Files g.M.Sink c.args.files.now c.args.messages.now before fault c.from_residual.result r e
@@ -19,12 +18,10 @@ returns-in_err-check-clause-called g c =
 
 pub returns-in_err-read-clause-called : goal.returns-in_err-read-clause-called
 returns-in_err-read-clause-called g c =
-    let before = c.args.self.now.session in
-    let code = before.progress.work.output.code in
+    let before = c.args.self.now.session in let code = before.progress.work.output.code in
     let e : c.from_residual-in_err-read.result ≡ Err c.in_err-read.field-0.0 = search rules in
     subst (λ (a : Result Closed UnitFault). ReadsText g.F.Files g.M.Sink g.B.Bounds.most (λ s. s) (routine_body g.B.Bounds.most)
-    c.args.files.now c.read.new.files c.args.messages.now c.read.new.messages before c.read.new.self.session a) (sym e)
-    (record {
+    c.args.files.now c.read.new.files c.args.messages.now c.read.new.messages before c.read.new.self.session a) (sym e) (record {
       answers = λ going honest start nested kept.
           let x = c.in_err-read.ensures.reads going honest start nested kept in (
             x.0,
@@ -42,10 +39,8 @@ returns-in_err-read-clause-called g c =
 
 pub returns-then-branch-clause-called : goal.returns-then-branch-clause-called
 returns-then-branch-clause-called g c =
-    let before = c.args.self.now.session in
-    let code = before.progress.work.output.code in
-    let now_code = c.read.new.self.session.progress.work.output.code in
-    let files = g.F.Files in
+    let before = c.args.self.now.session in let code = before.progress.work.output.code in
+    let now_code = c.read.new.self.session.progress.work.output.code in let files = g.F.Files in
     let wrong : Result Closed UnitFault = Err UnitFault.Wrong in
     let h : wrong ≡ unless_told c.in_ok-read.field-0 (added code now_code) =
     ap (λ (b : Bool). unless_told b (added code now_code)) (sym c.if-branch.true) in
@@ -70,14 +65,11 @@ returns-then-branch-clause-called g c =
 
 pub returns-clause-called : goal.returns-clause-called
 returns-clause-called g c =
-    let before = c.args.self.now.session in
-    let code = before.progress.work.output.code in
-    let now_code = c.read.new.self.session.progress.work.output.code in
-    let files = g.F.Files in
+    let before = c.args.self.now.session in let code = before.progress.work.output.code in
+    let now_code = c.read.new.self.session.progress.work.output.code in let files = g.F.Files in
     let place : c.next_place-start.result ≡ place_behind code.finished = search rules in
     let refs : c.references_of-refs.result ≡ 4 + later_count code.finished = search rules in
-    let start_at = c.next_place-start.result in
-    let before_refs = c.references_of-refs.result in
+    let start_at = c.next_place-start.result in let before_refs = c.references_of-refs.result in
     let stands : c.closed.result ≡ record {
       start = start_at;
       len = place_behind now_code.finished - start_at;

@@ -7,8 +7,7 @@ use Rattle.inf_code.proofs.code.Code.bytes.Goals as goal
 
 pub returns : goal.returns
 returns g c =
-    let inside = c.self.inside in
-    let routine = c.in-Some.field-0 in
+    let inside = c.self.inside in let routine = c.in-Some.field-0 in
     let is : IsCode inside.limits inside.finished inside.refs inside.area (Some routine) =
     subst (IsCode inside.limits inside.finished inside.refs inside.area) c.in-Some.is c.self.invariant.0 in
     let kept : inside.is_lost ≡ false = c.if-self.false in

@@ -12,9 +12,7 @@ use Rattle.inf_code.proofs.code.Code.close.Goals as goal
 
 pub returns-then-self-clause-fault : goal.returns-then-self-clause-fault
 returns-then-self-clause-fault g c =
-    let inside = c.self.inside in
-    let routine = c.in-Some.routine in
-    let kind = c.args.kind in
+    let inside = c.self.inside in let routine = c.in-Some.routine in let kind = c.args.kind in
     let some : inside.routine ≡ Some routine = sym c.take.ensures.value ∙ c.in-Some.is in
     let lost : inside.is_lost ≡ true = c.if-self.true in
     let is : IsCode inside.limits inside.finished inside.refs inside.area (Some routine) =
@@ -23,14 +21,11 @@ returns-then-self-clause-fault g c =
     λ wrong. MatchResult c.close_lost.result (λ _. wrong ≡ None) (λ fault. (fault ≡ CloseFault.Memory) ⊎ (wrong ≡ Some fault)) in
     let start = is.behind.start ∙ sym (size_finished inside.limits inside.finished inside.refs inside.area (Some routine) is) in
     let told = subst (λ n. Tells (fault_behind n 0 (contents_of routine inside.area))) start c.close_lost.ensures.fault in
-    subst Tells (closed_as kind g.B.Bounds.most inside.area some lost inside.is_most c.self.view_is)
-    (told_lost c.close_lost.result _ told)
+    subst Tells (closed_as kind g.B.Bounds.most inside.area some lost inside.is_most c.self.view_is) (told_lost c.close_lost.result _ told)
 
 pub returns-in-Err-clause-fault : goal.returns-in-Err-clause-fault
 returns-in-Err-clause-fault g c =
-    let inside = c.self.inside in
-    let routine = c.in-Some.routine in
-    let kind = c.args.kind in
+    let inside = c.self.inside in let routine = c.in-Some.routine in let kind = c.args.kind in
     let some : inside.routine ≡ Some routine = sym c.take.ensures.value ∙ c.in-Some.is in
     let kept : inside.is_lost ≡ false = c.if-self.false in
     let is : IsCode inside.limits inside.finished inside.refs inside.area (Some routine) =
@@ -43,14 +38,11 @@ returns-in-Err-clause-fault g c =
 
 pub invariant_of-self-2 : goal.invariant_of-self-2
 invariant_of-self-2 g c =
-    let inside = c.self.inside in
-    let routine = c.in-Some.routine in
+    let inside = c.self.inside in let routine = c.in-Some.routine in
     let some : inside.routine ≡ Some routine = sym c.take.ensures.value ∙ c.in-Some.is in
     let is : IsCode inside.limits inside.finished inside.refs inside.area (Some routine) =
     subst (IsCode inside.limits inside.finished inside.refs inside.area) some c.self.invariant.0 in
-    let whole = c.fill_up.new.area in
-    let listed = c.close.new.refs in
-    let few = c.in_default-fill_up.ensures.room in
+    let whole = c.fill_up.new.area in let listed = c.close.new.refs in let few = c.in_default-fill_up.ensures.room in
     let after = code_after inside.scale c.args.kind inside.limits inside.finished inside.refs listed inside.area c.close.new.area whole
     routine c.in-Ok.closed is c.in-Ok.ensures.ok c.in_default-fill_up.ensures.ok few in
     let none : IsCode inside.limits (length whole) listed whole c.take.new.self =
@@ -65,15 +57,12 @@ invariant_of-self-2 g c =
 
 pub returns-clause-ok : goal.returns-clause-ok
 returns-clause-ok g c =
-    let inside = c.self.inside in
-    let routine = c.in-Some.routine in
-    let kind = c.args.kind in
+    let inside = c.self.inside in let routine = c.in-Some.routine in let kind = c.args.kind in
     let some : inside.routine ≡ Some routine = sym c.take.ensures.value ∙ c.in-Some.is in
     let kept : inside.is_lost ≡ false = c.if-self.false in
     let is : IsCode inside.limits inside.finished inside.refs inside.area (Some routine) =
     subst (IsCode inside.limits inside.finished inside.refs inside.area) some c.self.invariant.0 in
-    let whole = c.fill_up.new.area in
-    let listed = c.close.new.refs in
+    let whole = c.fill_up.new.area in let listed = c.close.new.refs in
     let before = source_cells inside.finished inside.refs inside.area in
     let closed = finished_closed inside.scale kind inside.limits inside.finished inside.refs listed inside.area c.close.new.area whole
     routine c.in-Ok.closed is c.in-Ok.ensures.ok c.in_default-fill_up.ensures.ok in
@@ -100,9 +89,7 @@ returns-clause-ok g c =
 
 pub returns-in-Err-fill_up-clause-fault : goal.returns-in-Err-fill_up-clause-fault
 returns-in-Err-fill_up-clause-fault g c =
-    let inside = c.self.inside in
-    let routine = c.in-Some.routine in
-    let kind = c.args.kind in
+    let inside = c.self.inside in let routine = c.in-Some.routine in let kind = c.args.kind in
     let some : inside.routine ≡ Some routine = sym c.take.ensures.value ∙ c.in-Some.is in
     let kept : inside.is_lost ≡ false = c.if-self.false in
     let is : IsCode inside.limits inside.finished inside.refs inside.area (Some routine) =
@@ -122,9 +109,7 @@ returns-in-Err-fill_up-clause-fault g c =
 
 pub returns-clause-fault : goal.returns-clause-fault
 returns-clause-fault g c =
-    let inside = c.self.inside in
-    let routine = c.in-Some.routine in
-    let kind = c.args.kind in
+    let inside = c.self.inside in let routine = c.in-Some.routine in let kind = c.args.kind in
     let some : inside.routine ≡ Some routine = sym c.take.ensures.value ∙ c.in-Some.is in
     let kept : inside.is_lost ≡ false = c.if-self.false in
     let is : IsCode inside.limits inside.finished inside.refs inside.area (Some routine) =

@@ -13,15 +13,13 @@ invariant_of-self-2 g c =
     subst (IsCode inside.limits inside.finished inside.refs inside.area) c.in-Some.is c.self.invariant.0 in (
       code_or_same inside.limits inside.finished inside.refs inside.area c.emit.new.area c.in-Some.routine c.emit.new.self
           (with_instruction (parts_of c.args.instruction.now) (contents_of c.in-Some.routine inside.area)) is c.emit.result
-          c.emit.ensures.ok
-          c.emit.ensures.err,
+          c.emit.ensures.ok c.emit.ensures.err,
       c.self.invariant.1,
     )
 
 pub returns-clause-fault : goal.returns-clause-fault
 returns-clause-fault g c =
-    let inside = c.self.inside in
-    let parts = parts_of c.args.instruction.now in
+    let inside = c.self.inside in let parts = parts_of c.args.instruction.now in
     let is : IsCode inside.limits inside.finished inside.refs inside.area (Some c.in-Some.routine) =
     subst (IsCode inside.limits inside.finished inside.refs inside.area) c.in-Some.is c.self.invariant.0 in
     let before = source_cells inside.finished inside.refs inside.area in
@@ -36,6 +34,5 @@ returns-clause-fault g c =
     } in
     let Tells : Option Limit → Type 0 = λ full. MatchResult c.emit.result (λ _. full ≡ None) (λ fault. fault ≡ refusal full) in
     let same = full_is inside.limits inside.finished inside.refs c.listed-refs.result.now inside.area inside.is_lost c.in-Some.routine is
-    kept (instruction_cells parts)
-    ∙ ap (λ r. full_with parts (With r)) (sym c.in-Some.is) ∙ ap (full_with parts) c.self.view_is in
+    kept (instruction_cells parts) ∙ ap (λ r. full_with parts (With r)) (sym c.in-Some.is) ∙ ap (full_with parts) c.self.view_is in
     subst Tells same c.emit.ensures.fault

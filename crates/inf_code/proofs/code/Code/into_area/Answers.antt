@@ -8,8 +8,7 @@ use Rattle.inf_code.proofs.code.Code.into_area.Goals as goal
 
 pub returns-then-limit-len-clause-fault : goal.returns-then-limit-len-clause-fault
 returns-then-limit-len-clause-fault g c =
-    let inside = c.self.inside in
-    let refs = c.args.refs.now in
+    let inside = c.self.inside in let refs = c.args.refs.now in
     let cells = source_cells inside.finished inside.refs inside.area in
     let count : later_count (code_cells c.args.called c.args.self.finished) ≡ 1 + c.len-2.result =
     ap (λ (r : Routines). later_count (code_cells c.args.called r.finished)) (sym c.self.view_is)
@@ -24,8 +23,7 @@ returns-then-limit-len-clause-fault g c =
 
 pub returns-in_err-list_all-clause-fault : goal.returns-in_err-list_all-clause-fault
 returns-in_err-list_all-clause-fault g c =
-    let inside = c.self.inside in
-    let refs = c.args.refs.now in
+    let inside = c.self.inside in let refs = c.args.refs.now in
     let cells = source_cells inside.finished inside.refs inside.area in
     let count : later_count (code_cells c.args.called c.args.self.finished) ≡ 1 + c.len-2.result =
     ap (λ (r : Routines). later_count (code_cells c.args.called r.finished)) (sym c.self.view_is)
@@ -40,8 +38,7 @@ returns-in_err-list_all-clause-fault g c =
 
 pub returns-clause-fault : goal.returns-clause-fault
 returns-clause-fault g c =
-    let inside = c.self.inside in
-    let refs = c.args.refs.now in
+    let inside = c.self.inside in let refs = c.args.refs.now in
     let cells = source_cells inside.finished inside.refs inside.area in
     let count : later_count (code_cells c.args.called c.args.self.finished) ≡ 1 + c.len-2.result =
     ap (λ (r : Routines). later_count (code_cells c.args.called r.finished)) (sym c.self.view_is)

@@ -12,19 +12,16 @@ returns-in-Some-clause-fault g c =
     let count = size_finished inside.limits inside.finished inside.refs inside.area inside.routine c.self.invariant.0 in
     let same = ap (full_behind_bytes inside.limits c.args.is_lost inside.has_begun) (sym count)
     ∙ ap (λ l. full_behind_bytes l c.args.is_lost inside.has_begun (place_behind (source_cells inside.finished inside.refs inside.area)))
-    inside.is_most
-    ∙ ap (full_opened g.B.Bounds.most c.args.is_lost) c.self.view_is in
+    inside.is_most ∙ ap (full_opened g.B.Bounds.most c.args.is_lost) c.self.view_is in
     ap refusal (sym c.in-Some.is ∙ c.full_opened.ensures ∙ same)
 
 pub returns-in_err-routine-clause-fault : goal.returns-in_err-routine-clause-fault
 returns-in_err-routine-clause-fault g c =
-    let inside = c.self.inside in
-    let bound = inside.limits in
+    let inside = c.self.inside in let bound = inside.limits in
     let count = size_finished bound inside.finished inside.refs inside.area inside.routine c.self.invariant.0 in
     let same = ap (full_behind_bytes inside.limits c.args.is_lost inside.has_begun) (sym count)
     ∙ ap (λ l. full_behind_bytes l c.args.is_lost inside.has_begun (place_behind (source_cells inside.finished inside.refs inside.area)))
-    inside.is_most
-    ∙ ap (full_opened g.B.Bounds.most c.args.is_lost) c.self.view_is in
+    inside.is_most ∙ ap (full_opened g.B.Bounds.most c.args.is_lost) c.self.view_is in
     let none : full_behind_bytes inside.limits c.args.is_lost inside.has_begun inside.finished ≡ None =
     sym c.full_opened.ensures ∙ c.in_default.is in
     let cut =
@@ -41,6 +38,5 @@ returns-clause-fault g c =
     let count = size_finished inside.limits inside.finished inside.refs inside.area inside.routine c.self.invariant.0 in
     let same = ap (full_behind_bytes inside.limits c.args.is_lost inside.has_begun) (sym count)
     ∙ ap (λ l. full_behind_bytes l c.args.is_lost inside.has_begun (place_behind (source_cells inside.finished inside.refs inside.area)))
-    inside.is_most
-    ∙ ap (full_opened g.B.Bounds.most c.args.is_lost) c.self.view_is in
+    inside.is_most ∙ ap (full_opened g.B.Bounds.most c.args.is_lost) c.self.view_is in
     sym same ∙ sym c.full_opened.ensures ∙ c.in_default.is

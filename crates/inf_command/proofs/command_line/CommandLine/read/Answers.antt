@@ -6,8 +6,7 @@ use Rattle.inf_command.proofs.command_line.CommandLine.read.Goals as goal
 pub loop-place-preserved : goal.loop-place-preserved
 loop-place-preserved c =
     sym (read_from-taken c.args.words.now c.loop-place.place _ c.loop-place.taken c.in_ok-taken.taken c.loop-place-test.true
-    (sym c.and.ensures ∙ c.in_ok-taken.was))
-    ∙ c.loop-place.invariant
+    (sym c.and.ensures ∙ c.in_ok-taken.was)) ∙ c.loop-place.invariant
 
 pub returns-in_err-taken : goal.returns-in_err-taken
 returns-in_err-taken c =

@@ -6,8 +6,7 @@ use Rattle.inf_conditionals.proofs.condition.Condition.is_true.Goals as goal
 
 pub returns-in-Some : goal.returns-in-Some
 returns-in-Some g c =
-    let k = c.self.inside in
-    let o = c.args.out.now in
+    let k = c.self.inside in let o = c.args.out.now in
     let found : truth_of c.args.declared o k.tokens ≡ Some c.in-Some.is_true =
     subst (λ (x : Option Bool). IfSome x (λ b. truth_of c.args.declared o k.tokens ≡ Some b)) c.in-Some.is c.in_ok-truth.ensures.truth in
     let there : has_tokens k.held ≡ true =

@@ -12,12 +12,10 @@ unreachable-requires-then-not-branch c =
 
 pub loop-at-preserved : goal.loop-at-preserved
 loop-at-preserved c =
-    let ts = c.args.tokens.now in
-    let there = sym c.in-Some.ensures in
+    let ts = c.args.tokens.now in let there = sym c.in-Some.ensures in
     let took = c.in_ok-take.ensures.taken c.if-not-branch.false in
     record {
-      fits =
-          others_fit ts c.loop-at.at (c.loop-at.at + 1) (spelled c.in-Some.token) c.loop-at.self c.take.new.self (omega arith) there took
+      fits = others_fit ts c.loop-at.at (c.loop-at.at + 1) (spelled c.in-Some.token) c.loop-at.self c.take.new.self (omega arith) there took
           c.loop-at.invariant.fits;
       left =
           others_taken ts c.loop-at.at (c.loop-at.at + 1) (spelled c.in-Some.token) c.loop-at.self c.take.new.self (omega arith) there took

@@ -12,12 +12,8 @@ not_zero (suc n) some = eqb-suc-zero n
 
 pub returns : goal.returns
 returns c =
-    let k = c.self.inside in
-    let xs = k.values.items in
-    let sense = c.args.sense in
-    let test = c.args.test in
-    let parts = c.args.parts in
-    let before = c.len-count.result - parts - 1 in
+    let k = c.self.inside in let xs = k.values.items in let sense = c.args.sense in let test = c.args.test in
+    let parts = c.args.parts in let before = c.len-count.result - parts - 1 in
     let t : Truth = record {
       counts = reverse k.counts.items;
       values = reverse xs;
@@ -38,8 +34,6 @@ returns c =
     subst (λ (x : Truth). OnOk c.add.result (c.add.new.self ≡ x))
     (ap (λ (x : Option ℕ). with_value x (reverse c.truncate.new.self.items) t) value
     ∙ ap (λ (l : List (Option ℕ)). with_value (tested sense test (get_or xs before None) (drop (suc before) xs)) (reverse l) t)
-    c.truncate.ensures.items
-    ∙ test_behind sense test parts before xs t all
+    c.truncate.ensures.items ∙ test_behind sense test parts before xs t all
     ∙ ap (λ b. if b then odd t else tested_behind sense test (drop parts t.values) (reverse (take parts t.values)) t) (sym some)
-    ∙ ap (λ (x : Truth). test_of sense test parts x) c.self.view_is)
-    c.add.ensures
+    ∙ ap (λ (x : Truth). test_of sense test parts x) c.self.view_is) c.add.ensures

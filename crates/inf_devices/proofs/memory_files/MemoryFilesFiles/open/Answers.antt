@@ -18,8 +18,7 @@ invariant_of-self-2 c =
     let there = source_present c.self.inside.sources c.args.name.now (sym c.contains_key.ensures ∙ c.if-not-contains_key.false) in
     rw (c.in_ok-add_opened.ensures.opened, c.in_ok-add_opened.ensures.open_places)
     (AreOpenings-opened (sources_of (kept_in c.self.inside.sources)) c.self.inside.opened.items c.self.inside.open_places.items _
-    c.self.invariant
-    (record { whole = there.0; is_source = rw c.in_ok-name.ensures.ok there.1; within = omega arith }))
+    c.self.invariant (record { whole = there.0; is_source = rw c.in_ok-name.ensures.ok there.1; within = omega arith }))
 
 pub returns-clause-opens : goal.returns-clause-opens
 returns-clause-opens c honest =
@@ -32,8 +31,7 @@ returns-clause-opens c honest =
 
 pub returns-clause-opened : goal.returns-clause-opened
 returns-clause-opened c =
-    let s = sources_of (kept_in c.self.inside.sources) in
-    let items = c.self.inside.opened.items in
+    let s = sources_of (kept_in c.self.inside.sources) in let items = c.self.inside.opened.items in
     rw (← c.self.view_is, c.in_ok-add_opened.ensures.opened, ← c.in_ok-name.ensures.ok)
     (ap (λ (o : Openings). names_from [] o.all) (openings_of-opened s items c.self.inside.open_places.items _ refl refl)
     ∙ names_behind [] (map (opening_of s) items) (opened (string_bytes c.in_ok-name.name)))

@@ -35,16 +35,14 @@ pub give-requires : goal.give-requires
 give-requires c = omega (arith, c.rest_of.ensures.fits, c.copy_front-count.ensures.count)
 
 pub invariant_of-self : goal.invariant_of-self
-invariant_of-self c =
-    rw c.give.ensures
+invariant_of-self c = rw c.give.ensures
     (AreOpenings-given (sources_of (kept_in c.self.inside.sources)) c.self.inside.opened.items c.self.inside.open_places.items
     c.index-place.result.now _ c.self.invariant
     (IsOpening-given (sources_of (kept_in c.self.inside.sources)) c.index_mut-opened.result.now c.copy_front-count.result (is_of_source c)
     (omega (arith, count_left c))))
 
 pub returns-clause-reads : goal.returns-clause-reads
-returns-clause-reads c honest =
-    rw (← c.self.view_is, c.give.ensures)
+returns-clause-reads c honest = rw (← c.self.view_is, c.give.ensures)
     (gives_innermost (sources_of (kept_in c.self.inside.sources)) c.self.inside.opened.items c.self.inside.open_places.items
     c.index-place.result.now c.index_mut-opened.result.now c.copy_front-count.result _
     (is_some_open c) (is_last c) (is_within c) c.index_mut-opened.ensures.value (is_of_source c)
@@ -52,7 +50,6 @@ returns-clause-reads c honest =
     (c.copy_front-count.ensures.copied ∙ ap (take c.copy_front-count.result) c.rest_of.ensures.rest))
 
 pub returns-clause-opened : goal.returns-clause-opened
-returns-clause-opened c =
-    rw (← c.self.view_is, c.give.ensures)
+returns-clause-opened c = rw (← c.self.view_is, c.give.ensures)
     (names_given (sources_of (kept_in c.self.inside.sources)) c.self.inside.opened.items c.index-place.result.now
     c.index_mut-opened.result.now c.copy_front-count.result [] (is_within c) c.index_mut-opened.ensures.value)

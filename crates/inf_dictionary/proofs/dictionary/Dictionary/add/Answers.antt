@@ -17,9 +17,7 @@ invariant_of-self-2 g c =
 
 pub returns-then-is_known-clause-ok : goal.returns-then-is_known-clause-ok
 returns-then-is_known-clause-ok g c =
-    let words = c.args.self.now.list in
-    let text = c.args.text in
-    let word = c.joined-word.result in
+    let words = c.args.self.now.list in let text = c.args.text in let word = c.joined-word.result in
     let rising = subst (λ (w : Words). AreRising (texts_of w.list)) c.self.view_is c.self.invariant.1 in
     let known = sym c.word-before.ensures ∙ c.is_known.ensures c.if-is_known.true in
     let same : insert_entry order words text (joined (word_of text words) c.args.word_use c.args.is_plural) ≡ words =

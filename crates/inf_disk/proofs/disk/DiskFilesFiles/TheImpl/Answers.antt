@@ -23,8 +23,8 @@ read-tells g c = record {
   counts = c.ensures.counts;
   depth = c.ensures.depth;
   opened = c.ensures.opened;
-  cause = c.ensures.cause;
-  faults = c.ensures.faults;
+  cause = c.ensures.trouble.failed;
+  faults = (c.ensures.trouble.later, c.ensures.trouble.calm);
   kept = (refl, refl);
 }
 

@@ -11,8 +11,8 @@ pub write-tells : goal.write-tells
 write-tells g c = record {
   writes = states_none c.args.bytes.now c.result;
   count = c.ensures.count;
-  failed = c.ensures.failed;
-  nothing = c.ensures.nothing;
-  quiet = c.ensures.failures.1;
-  failures = c.ensures.failures.0;
+  failed = c.ensures.trouble.failed;
+  nothing = c.ensures.trouble.nothing;
+  quiet = c.ensures.trouble.calm;
+  failures = c.ensures.trouble.later;
 }

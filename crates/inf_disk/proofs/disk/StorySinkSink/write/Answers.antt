@@ -22,11 +22,8 @@ none_made contents (Some before) (Err e) bytes none err = absurd (none refl)
 
 pub returns-in_err-make-clause-bytes : goal.returns-in_err-make-clause-bytes
 returns-in_err-make-clause-bytes g c =
-    let contents = g.R.File.Write.contents in
-    let old = c.args.self.now.file in
-    let r = c.from_residual.result in
-    let bytes = c.args.bytes.now in
-    let none : c.make.new.self.file ≡ None = c.in_err-make.ensures.none refl in
+    let contents = g.R.File.Write.contents in let old = c.args.self.now.file in let r = c.from_residual.result in
+    let bytes = c.args.bytes.now in let none : c.make.new.self.file ≡ None = c.in_err-make.ensures.none refl in
     subst (λ f. WritesMade contents old f r bytes) (sym none)
     (none_made contents old r bytes (λ some. let never = (c.in_err-make.ensures.held some).0 in cc) c.from_residual.ensures.0)
 

@@ -14,8 +14,7 @@ returns-in_err-ending-clause-refused g c = λ honest goes.
     rw (← c.self.view_is, fault_is c.from_residual.result c.from_residual.ensures) (c.in_err-ending.ensures.refused honest)
 
 pub returns-in_err-kind-clause-went : goal.returns-in_err-kind-clause-went
-returns-in_err-kind-clause-went g c = λ goes.
-    rw (← c.self.view_is)
+returns-in_err-kind-clause-went g c = λ goes. rw (← c.self.view_is)
     (reads_refused (fault_is c.from_residual-in_err-kind.result c.from_residual-in_err-kind.ensures) c.in_ok-ending.ensures.heard.went)
 
 pub returns-in_err-kind-clause-refused : goal.returns-in_err-kind-clause-refused
@@ -23,8 +22,7 @@ returns-in_err-kind-clause-refused g c = λ honest goes.
     let files = g.F.Files in
     rw (fault_is c.from_residual-in_err-kind.result c.from_residual-in_err-kind.ensures)
     (subst (λ (r : Reader). is_quoted (find r.set r.limit State.Gap (begun r.lines)
-    (to_come (files.sources c.args.files.now) (files.openings c.args.files.now) r.window)).ending ≡ true)
-    c.self.view_is
+    (to_come (files.sources c.args.files.now) (files.openings c.args.files.now) r.window)).ending ≡ true) c.self.view_is
     (ap (λ (f : Found). is_quoted f.ending) (sym (heard_source c.in_ok-ending.ensures.heard honest)) ∙ c.in_err-kind.ensures.memory refl))
 
 pub returns-clause-token : goal.returns-clause-token

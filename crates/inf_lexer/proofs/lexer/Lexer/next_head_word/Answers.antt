@@ -13,20 +13,16 @@ returns-in_err-last-clause-went g c = λ goes.
 
 pub returns-in_err-last-clause-refused : goal.returns-in_err-last-clause-refused
 returns-in_err-last-clause-refused g c =
-    let files = g.F.Files in
-    let sources = files.sources c.args.files.now in
-    let lexer = c.self.inside in
+    let files = g.F.Files in let sources = files.sources c.args.files.now in let lexer = c.self.inside in
     rw (← c.self.view_is, fault_is c.from_residual.result c.from_residual.ensures ∙ ap Err c.in_err-last.ensures.err) (
       refl,
       λ honest goes not. subst (λ (word : List ℕ). StaysOpen (λ bytes. (head_found c.args.place.now word lexer.seen.lines bytes).rest)
           (to_come sources (files.openings c.args.files.now) lexer.window) (c.scan_head.new.window.given - 16777216)
-          (unread sources (files.openings c.scan_head.new.files))) c.clear.ensures
-          (c.in_err-last.ensures.refused refl not honest),
+          (unread sources (files.openings c.scan_head.new.files))) c.clear.ensures (c.in_err-last.ensures.refused refl not honest),
     )
 
 pub returns-clause-word : goal.returns-clause-word
-returns-clause-word g c = λ honest.
-    rw (← c.self.view_is)
+returns-clause-word g c = λ honest. rw (← c.self.view_is)
     (heard_source (heard_word c.in_ok-last.ensures.heard c.clear.ensures c.is_word.ensures c.place_behind.ensures) honest)
 
 pub returns-clause-heard : goal.returns-clause-heard

@@ -43,19 +43,16 @@ returns-in_err-name-clause-declines g c =
     (leb-false 16 (length c.args.self.now.open_files) (sym c.is_full.ensures ∙ c.if-is_full.false))
 
 pub returns-then-is_beside-clause-declines : goal.returns-then-is_beside-clause-declines
-returns-then-is_beside-clause-declines g c =
-    declines_none _ c.open_named.result c.open_named.ensures.named
+returns-then-is_beside-clause-declines g c = declines_none _ c.open_named.result c.open_named.ensures.named
     (can_be _ _ _ c.args.text.now c.in-Some.ensures refl c.without_sign-is_beside.ensures.name)
     (leb-false 16 (length c.args.self.now.open_files) (sym c.is_full.ensures ∙ c.if-is_full.false))
 
 pub returns-then-is_empty-clause-declines : goal.returns-then-is_empty-clause-declines
-returns-then-is_empty-clause-declines g c =
-    declines_none _ c.open_named-then-is_empty.result c.open_named-then-is_empty.ensures.named
+returns-then-is_empty-clause-declines g c = declines_none _ c.open_named-then-is_empty.result c.open_named-then-is_empty.ensures.named
     (can_be _ _ _ c.args.text.now c.in-Some.ensures refl c.without_sign-is_beside.ensures.name)
     (leb-false 16 (length c.args.self.now.open_files) (sym c.is_full.ensures ∙ c.if-is_full.false))
 
 pub returns-clause-declines : goal.returns-clause-declines
-returns-clause-declines g c =
-    declines_none _ c.open_first.result c.open_first.ensures.named
+returns-clause-declines g c = declines_none _ c.open_first.result c.open_first.ensures.named
     (can_be _ _ _ c.args.text.now c.in-Some.ensures refl c.without_sign-is_beside.ensures.name)
     (leb-false 16 (length c.args.self.now.open_files) (sym c.is_full.ensures ∙ c.if-is_full.false))

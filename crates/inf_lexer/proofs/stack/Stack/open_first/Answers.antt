@@ -31,6 +31,5 @@ returns-then-not-is_absent-clause-attempt g c =
     (sym c.is_absent.ensures ∙ c.if-not-is_absent.true))
 
 pub returns-clause-attempt : goal.returns-clause-attempt
-returns-clause-attempt g c =
-    attempt_as (ap (map (λ (d : Bor (List ℕ)). name_in d.now c.args.file.now))
+returns-clause-attempt g c = attempt_as (ap (map (λ (d : Bor (List ℕ)). name_in d.now c.args.file.now))
     (sym (take_all c.loop-directory.directory-index c.args.directories.now c.loop-directory-test.false))) c.loop-directory.invariant

@@ -38,11 +38,9 @@ returns-in-Err-Memory-clause-attempt g c =
 
 pub returns-then-number-ge-MOST_NAMES-clause-attempt : goal.returns-then-number-ge-MOST_NAMES-clause-attempt
 returns-then-number-ge-MOST_NAMES-clause-attempt g c =
-    let o = c.in-Ok.ensures in
-    let e = c.close.ensures in
+    let o = c.in-Ok.ensures in let e = c.close.ensures in
     attempt_closed (opens_by c.as_str-2.ensures.value o.opens o.depth o.opened (o.faults.1 refl) o.counts o.kept)
-    (closes_by e.closes e.depth e.opened e.faults e.counts e.kept)
-    (omega (
+    (closes_by e.closes e.depth e.opened e.faults e.counts e.kept) (omega (
       arith,
       c.if-number-ge-MOST_NAMES.true,
       c.number_of-number.ensures ∙ ap (λ (n : List ℕ). number_of n c.args.self.now.names) c.as_str.ensures.value,
@@ -50,9 +48,7 @@ returns-then-number-ge-MOST_NAMES-clause-attempt g c =
 
 pub returns-clause-attempt : goal.returns-clause-attempt
 returns-clause-attempt g c =
-    let o = c.in-Ok.ensures in
-    let inside = c.self.inside in
-    let name = string_bytes c.args.name in
+    let o = c.in-Ok.ensures in let inside = c.self.inside in let name = string_bytes c.args.name in
     let number : c.number_of-number.result ≡ number_of name c.args.self.now.names =
     c.number_of-number.ensures ∙ ap (λ (n : List ℕ). number_of n c.args.self.now.names) c.as_str.ensures.value in
     let keys = of_ok c.insert.result _ (c.insert.ensures.succeeds (omega (arith, c.in_ok-reserve.ensures.ok))) c.insert.ensures.keys in
@@ -68,13 +64,11 @@ returns-clause-attempt g c =
         names = names;
         open_files = c.push.new.self.items;
       }) (ap (map string_bytes) (keys ∙ ap (λ ks. insert_key string_eq ks c.args.name) c.in_ok-reserve.ensures.keys)
-          ∙ added_to inside.names.keys c.args.name)
-          ∙ ap (λ (files : List ℕ). record {
+          ∙ added_to inside.names.keys c.args.name) ∙ ap (λ (files : List ℕ). record {
             set = inside.set;
             limit = inside.limit;
             names = with_name name (map string_bytes inside.names.keys);
             open_files = files;
-          })
-          (c.push.ensures.items ∙ ap (λ n. inside.open_files.items ++ n ∷ []) here),
+          }) (c.push.ensures.items ∙ ap (λ n. inside.open_files.items ++ n ∷ []) here),
       c.in_ok-lexer.ensures ∙ ap (at_front inside.set inside.limit) here,
     ))

@@ -16,8 +16,7 @@ returns-then-self-gt-MOST_SOURCE_BYTES-clause-fills g c =
     (ap (λ (v : View). v.given + c.in-Ok.count) c.self.view_is) refl tt (omega arith)
 
 pub returns-clause-fills : goal.returns-clause-fills
-returns-clause-fills g c =
-    fills_once false c.requires.empty c.requires.going c.requires.given c.in-Ok.ensures.reads c.in-Ok.ensures.fits
+returns-clause-fills g c = fills_once false c.requires.empty c.requires.going c.requires.given c.in-Ok.ensures.reads c.in-Ok.ensures.fits
     (omega (arith, c.in-Ok.ensures.count))
     (written_window c.in-Ok.count c.self.inside.buffer c.read_front.new.bytes (c.read_front.auto.bytes ∙ c.as_mut_slice.ensures.len))
     (ap (λ (v : View). v.given + c.in-Ok.count) c.self.view_is) refl (omega arith) tt

@@ -4,6 +4,5 @@ use Rattle.inf_lexer.proofs.Reading.{heard_none}
 use Rattle.inf_lexer.proofs.window.Window.refill.Goals as goal
 
 pub returns-then-self-clause-fills : goal.returns-then-self-clause-fills
-returns-then-self-clause-fills g c =
-    heard_none c.requires.given
+returns-then-self-clause-fills g c = heard_none c.requires.given
     (subst (λ (v : View). length v.left ≤ 4096) c.self.view_is (simp length-take (omega arith)))

@@ -5,8 +5,7 @@ use Rattle.inf_machine.proofs.openings.Openings.open.Goals as goal
 
 pub invariant_of-self-2 : goal.invariant_of-self-2
 invariant_of-self-2 g c = all_mean_on g.T.Table.grammar g.T.Table.known c.self.inside.made.items c.push.new.self.items
-    (c.in_ok-of.field-0 ∷ []) c.self.inside.steps
-    c.in_ok-push.ensures.items c.self.invariant
+    (c.in_ok-of.field-0 ∷ []) c.self.inside.steps c.in_ok-push.ensures.items c.self.invariant
 
 pub returns : goal.returns
 returns g c = (

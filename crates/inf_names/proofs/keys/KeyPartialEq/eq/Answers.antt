@@ -4,8 +4,7 @@ use Rattle.inf_names.proofs.keys.KeyPartialEq.eq.Goals as goal
 
 pub returns-then-self-other : goal.returns-then-self-other
 returns-then-self-other c =
-    let self = c.self.inside in
-    let other = c.other.inside in
+    let self = c.self.inside in let other = c.other.inside in
     c.same.ensures
     ∙ eq_items self.bytes other.bytes self.size other.size c.if-self-other.true c.self.invariant.1 c.other.invariant.1
     ∙ ap (λ (v : _). bytes_eq v.items (take other.size other.bytes)) c.self.view_is

@@ -8,11 +8,8 @@ use Rattle.inf_names.proofs.locals.Locals.name.Goals as goal
 
 pub returns-in-Some : goal.returns-in-Some
 returns-in-Some c =
-    let list = c.args.self.now.list in
-    let name = c.args.name.now in
-    let shown = c.deref_mut.result.now in
-    let place = c.in-Some.place in
-    let none = c.index-deref_mut-place.result in
+    let list = c.args.self.now.list in let name = c.args.name.now in let shown = c.deref_mut.result.now in
+    let place = c.in-Some.place in let none = c.index-deref_mut-place.result in
     let at = found_place place (position_or_len (has name) list.items) (length list.items) c.in-Some.ensures.value in
     let within : position_or_len (has name) list.items < length list.items = omega (arith, at, c.in-Some.ensures.within) in
     let same : length (set shown place (as_named (get_or shown place none))) ≡ length list.items =
@@ -22,6 +19,5 @@ returns-in-Some c =
 
 pub returns-in_default : goal.returns-in_default
 returns-in_default c =
-    let items = c.args.self.now.list.items in
-    let name = c.args.name.now in
+    let items = c.args.self.now.list.items in let name = c.args.name.now in
     sym (with_named-absent name items (no_place (position_or_len (has name) items) (length items) c.in_default.ensures.value))

@@ -24,11 +24,8 @@ overflow_add-self g c =
 
 pub invariant_of-self-2 : goal.invariant_of-self-2
 invariant_of-self-2 g c =
-    let inside = c.self.inside in
-    let es = inside.entries.entries in
-    let names = map as_named es in
-    let key = folded c.args.name.now in
-    let known = standing_of key names in
+    let inside = c.self.inside in let es = inside.entries.entries in let names = map as_named es in
+    let key = folded c.args.name.now in let known = standing_of key names in
     let system = system_meaning inside.is_debugging c.args.name.now in
     let full = nat_le (g.B.Bounds.most Setting.Symbols) (length names) in
     let put_in = IsDeclared inside.declared c.args.meaning c.args.place in
@@ -36,8 +33,7 @@ invariant_of-self-2 g c =
       names = names;
       declared = inside.declared;
       is_debugging = inside.is_debugging;
-    }) ≡ None =
-    ap (declare_fault g.B.Bounds.most c.args.name.now) c.self.view_is ∙ sym c.in_default.ensures in
+    }) ≡ None = ap (declare_fault g.B.Bounds.most c.args.name.now) c.self.view_is ∙ sym c.in_default.ensures in
     let new = c.insert.new.self.entries in
     let is : map as_named new ≡ put key put_in names =
     ap (map as_named) c.in_ok-insert.ensures.entries ∙ put-insert _ _ es ∙ ap (λ k. put k put_in names) c.of.ensures in
@@ -55,8 +51,7 @@ invariant_of-self-2 g c =
 
 pub returns-clause-ok : goal.returns-clause-ok
 returns-clause-ok g c =
-    let inside = c.self.inside in
-    let es = inside.entries.entries in
+    let inside = c.self.inside in let es = inside.entries.entries in
     let put_in = IsDeclared inside.declared c.args.meaning c.args.place in
     let is : map as_named c.insert.new.self.entries ≡ put (folded c.args.name.now) put_in (map as_named es) =
     ap (map as_named) c.in_ok-insert.ensures.entries ∙ put-insert _ _ es ∙ ap (λ k. put k put_in (map as_named es)) c.of.ensures in
@@ -70,8 +65,7 @@ returns-in-Some-clause-memory g c = λ memory.
 
 pub returns-in_err-insert-clause-memory : goal.returns-in_err-insert-clause-memory
 returns-in_err-insert-clause-memory g c =
-    let t = c.args.self.now in
-    let key = folded c.args.name.now in
+    let t = c.args.self.now in let key = folded c.args.name.now in
     let gone : is_some (standing_of c.of.result.items (map as_named c.self.inside.entries.entries)) ≡ false =
     absent_key c.of.result.items c.self.inside.entries.entries c.in_err-insert.ensures.absent in
     let absent : is_some (standing_of key t.names) ≡ false = ap (λ (t : Table _). is_some (standing_of key t.names)) (sym c.self.view_is)

@@ -6,8 +6,7 @@ use Rattle.inf_names.proofs.symbols.Symbols.entry_at.Goals as goal
 
 pub returns-in_err-entry : goal.returns-in_err-entry
 returns-in_err-entry g c = ap (option_map (λ e. standing e.now)) c.from_residual.ensures
-    ∙ ap (option_map (λ e. standing e.1)) c.in_err-entry.ensures.entry
-    ∙ sym (standing_at-get c.args.number c.self.inside.entries.entries)
+    ∙ ap (option_map (λ e. standing e.1)) c.in_err-entry.ensures.entry ∙ sym (standing_at-get c.args.number c.self.inside.entries.entries)
     ∙ ap (λ (t : Table _). standing_at c.args.number t.names) c.self.view_is
 
 pub returns : goal.returns

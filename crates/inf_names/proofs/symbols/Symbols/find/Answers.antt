@@ -1,5 +1,5 @@
 -- An unknown name has the number of the next one.
-use Rattle.std.proofs.Common.{◌≡◌, ◌∙◌, ℕ, List, Option, Some, None, ap, cond, false, length, map, refl, sym}
+use Rattle.std.proofs.Common.{◌≡◌, ◌∙◌, ℕ, List, Option, Some, None, ap, false, refl, sym}
 use Rattle.std.specs.Prelude.{is_some}
 use Rattle.inf_names.specs.{SystemNames.system_meaning, declared.meanings.Meaning.Meaning}
 use Rattle.inf_names.specs.Symbols.{Standing, Table, folded, found_as, index_of, number_among, number_by, standing_of}
@@ -9,8 +9,7 @@ use Rattle.inf_names.proofs.symbols.Symbols.find.Goals as goal
 pub returns-in-Some-clause-found : goal.returns-in-Some-clause-found
 returns-in-Some-clause-found g c =
     let t = c.args.self.now in
-    c.found_at.ensures
-    ∙ found_at_number (system_meaning t.is_debugging c.args.name.now) (folded c.args.name.now) t.names c.in-Some.number
+    c.found_at.ensures ∙ found_at_number (system_meaning t.is_debugging c.args.name.now) (folded c.args.name.now) t.names c.in-Some.number
     (sym c.in-Some.is ∙ c.number.ensures ∙ ap (λ k. number_among k t.names) c.of-key.ensures)
 
 next_number : {P : Type 0} (name : List ℕ) (t : Table P) (system : Option Meaning) (s : Option (Standing P)) → is_some system ≡ false →
@@ -21,8 +20,7 @@ next_number name t None (Some s) free absent = cc
 
 pub returns-in-None-clause-number : goal.returns-in-None-clause-number
 returns-in-None-clause-number g c =
-    let t = c.args.self.now in
-    let key = folded c.args.name.now in
+    let t = c.args.self.now in let key = folded c.args.name.now in
     let absent : is_some (standing_of key t.names) ≡ false =
     not_numbered key t.names (c.in_default.ensures ∙ ap (λ k. number_among k t.names) c.of-key.ensures) in
     let free : is_some (system_meaning t.is_debugging c.args.name.now) ≡ false =

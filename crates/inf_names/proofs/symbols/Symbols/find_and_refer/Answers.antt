@@ -12,11 +12,8 @@ use Rattle.inf_names.proofs.symbols.Symbols.find_and_refer.Goals as goal
 
 pub invariant_of-self-2 : goal.invariant_of-self-2
 invariant_of-self-2 g c =
-    let inside = c.self.inside in
-    let es = inside.entries.entries in
-    let names = map as_named es in
-    let key = folded c.args.name.now in
-    let known = standing_of key names in
+    let inside = c.self.inside in let es = inside.entries.entries in let names = map as_named es in
+    let key = folded c.args.name.now in let known = standing_of key names in
     let put_in = IsUsed c.args.name.now c.args.place in
     let absent : is_some known ≡ false = ap (λ (t : Table _). is_some (standing_of key t.names)) c.self.view_is
     ∙ not_numbered key c.args.self.now.names (c.in_default.ensures ∙ ap (λ k. number_among k c.args.self.now.names) c.of-key.ensures) in
@@ -37,11 +34,8 @@ invariant_of-self-2 g c =
 
 pub returns-clause-ok : goal.returns-clause-ok
 returns-clause-ok g c =
-    let inside = c.self.inside in
-    let es = inside.entries.entries in
-    let names = map as_named es in
-    let key = folded c.args.name.now in
-    let system = system_meaning inside.is_debugging c.args.name.now in
+    let inside = c.self.inside in let es = inside.entries.entries in let names = map as_named es in
+    let key = folded c.args.name.now in let system = system_meaning inside.is_debugging c.args.name.now in
     let t : Table _ = record { names = names; declared = inside.declared; is_debugging = inside.is_debugging } in
     let absent : is_some (standing_of key names) ≡ false = ap (λ (t : Table _). is_some (standing_of key t.names)) c.self.view_is
     ∙ not_numbered key c.args.self.now.names (c.in_default.ensures ∙ ap (λ k. number_among k c.args.self.now.names) c.of-key.ensures) in
@@ -56,8 +50,7 @@ returns-clause-ok g c =
 
 pub returns-in_err-insert-clause-memory : goal.returns-in_err-insert-clause-memory
 returns-in_err-insert-clause-memory g c =
-    let t = c.args.self.now in
-    let key = folded c.args.name.now in
+    let t = c.args.self.now in let key = folded c.args.name.now in
     let absent : is_some (standing_of key t.names) ≡ false =
     not_numbered key t.names (c.in_default.ensures ∙ ap (λ k. number_among k t.names) c.of-key.ensures) in
     let free : is_some (system_meaning t.is_debugging c.args.name.now) ≡ false =
@@ -70,23 +63,18 @@ returns-in_err-insert-clause-memory g c =
 
 pub returns-clause-number : goal.returns-clause-number
 returns-clause-number g c =
-    let inside = c.self.inside in
-    let es = inside.entries.entries in
-    let names = map as_named es in
-    let key = folded c.args.name.now in
-    let system = system_meaning inside.is_debugging c.args.name.now in
+    let inside = c.self.inside in let es = inside.entries.entries in let names = map as_named es in
+    let key = folded c.args.name.now in let system = system_meaning inside.is_debugging c.args.name.now in
     let t : Table _ = record { names = names; declared = inside.declared; is_debugging = inside.is_debugging } in
     let absent : is_some (standing_of key names) ≡ false = ap (λ (t : Table _). is_some (standing_of key t.names)) c.self.view_is
     ∙ not_numbered key c.args.self.now.names (c.in_default.ensures ∙ ap (λ k. number_among k c.args.self.now.names) c.of-key.ensures) in
     let free : is_some system ≡ false = ap is_some (sym c.in_default-system_meaning.ensures) in
     ap Some (c.len-number.ensures.count ∙ ap (λ (t : Table _). length t.names) (sym c.self.view_is) ∙ sym
-    (index_of-absent key names absent))
-    ∙ sym (new_number c.args.name.now c.args.place t system (standing_of key names) free absent)
+    (index_of-absent key names absent)) ∙ sym (new_number c.args.name.now c.args.place t system (standing_of key names) free absent)
     ∙ ap (number_of c.args.name.now) c.self.view_is
 
 pub returns-in-Some-clause-found : goal.returns-in-Some-clause-found
 returns-in-Some-clause-found g c =
     let t = c.args.self.now in
-    c.found_at.ensures
-    ∙ found_at_number (system_meaning t.is_debugging c.args.name.now) (folded c.args.name.now) t.names c.in-Some.number
+    c.found_at.ensures ∙ found_at_number (system_meaning t.is_debugging c.args.name.now) (folded c.args.name.now) t.names c.in-Some.number
     (sym c.in-Some.is ∙ c.number.ensures ∙ ap (λ k. number_among k t.names) c.of-key.ensures)

@@ -6,7 +6,6 @@ use Rattle.inf_opcode.proofs.opcodes.Opcode.has_name.Goals as goal
 
 pub returns : goal.returns
 returns c =
-    let own = map to_ascii_lowercase c.name.result.now in
-    let other = map to_ascii_lowercase c.args.name.now in
+    let own = map to_ascii_lowercase c.name.result.now in let other = map to_ascii_lowercase c.args.name.now in
     same_from_decides c.eq_ignore_ascii_case.result (bytes_eq own other) c.eq_ignore_ascii_case.ensures.test (bytes_eq-Decides own other)
     ∙ ap (λ text. str_eq_ignore_ascii_case text c.args.name.now) c.name.ensures

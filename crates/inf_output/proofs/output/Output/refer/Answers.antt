@@ -7,8 +7,7 @@ use Rattle.inf_output.proofs.output.Output.refer.Goals as goal
 
 pub returns-in-Err-Memory-clause-memory : goal.returns-in-Err-Memory-clause-memory
 returns-in-Err-Memory-clause-memory g c =
-    let names = c.self.inside.names in
-    let name = c.args.name.now in
+    let names = c.self.inside.names in let name = c.args.name.now in
     ap (λ (o : Out). refer_fault g.B.Bounds.most name o.names) (sym c.self.view_is)
     ∙ used_where_memory (found_in name names) (is_full g.B.Bounds.most names)
     (sym c.in-Err-Memory.field-0-is ∙ c.in-Err-Memory.ensures.fault)

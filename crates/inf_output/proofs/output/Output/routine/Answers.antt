@@ -7,8 +7,7 @@ use Rattle.inf_output.proofs.output.Output.routine.Goals as goal
 
 pub returns-in-Err-Memory-clause-memory : goal.returns-in-Err-Memory-clause-memory
 returns-in-Err-Memory-clause-memory g c =
-    let names = c.self.inside.names in
-    let name = c.as_bytes.result.now in
+    let names = c.self.inside.names in let name = c.as_bytes.result.now in
     let is : name ≡ name_of c.args.veneer = c.as_bytes.ensures.value ∙ c.name.ensures.value in
     ap (λ (o : Out). refer_fault g.B.Bounds.most (name_of c.args.veneer) o.names) (sym c.self.view_is)
     ∙ ap (λ (n : List ℕ). refer_fault g.B.Bounds.most n names) (sym is)

@@ -1,4 +1,4 @@
-use Rattle.std.proofs.Common.{◌≡◌, sym, ap, ◌∙◌, option_map}
+use Rattle.std.proofs.Common.{ap, ◌∙◌}
 use Rattle.inf_properties.specs.Properties.{found}
 use Rattle.inf_properties.proofs.Having.{found_number, found_short}
 use Rattle.inf_properties.proofs.index.PropertyIndex.find.Goals as goal

@@ -5,8 +5,7 @@ use Rattle.inf_properties.proofs.open.OpenProperties.above_of.Goals as goal
 
 pub size_of-requires : goal.size_of-requires
 size_of-requires c =
-    let own = c.self.inside.own.items in
-    let above = c.self.inside.above.items in
+    let own = c.self.inside.own.items in let above = c.self.inside.above.items in
     let absent : has c.args.number own ≡ false = ap (λ (o : Open). has c.args.number o.own) c.self.view_is ∙ c.requires in
     let is : found c.args.number above ≡ Some c.in-Some.property.now =
     ap (found c.args.number) (sym c.deref-2.ensures.value) ∙ sym c.in-Some.ensures in

@@ -6,10 +6,7 @@ use Rattle.inf_properties.proofs.open.OpenProperties.add_value.Goals as goal
 
 pub invariant_of-self-2 : goal.invariant_of-self-2
 invariant_of-self-2 c =
-    let o = c.self.inside in
-    let own = o.own.items in
-    let above = o.above.items in
-    let v = c.args.value in
+    let o = c.self.inside in let own = o.own.items in let above = o.above.items in let v = c.args.value in
     let short : is_last_short above (with_last_value v own) ≡ true =
     ap (λ (s : Open). is_last_short s.above (with_last_value v s.own)) c.self.view_is ∙ c.in-Some.ensures.short refl in
     let sized : c.in-Some.size ≡ total o.owner (inherited (with_last_value v own) above) =

@@ -3,8 +3,7 @@ use Rattle.inf_properties.proofs.open.OpenProperties.complete.Goals as goal
 
 pub from_list-requires : goal.from_list-requires
 from_list-requires c =
-    let own = c.self.inside.own.items in
-    let above = c.self.inside.above.items in
+    let own = c.self.inside.own.items in let above = c.self.inside.above.items in
     rw (c.in_ok-list.ensures, c.deref.ensures.value, c.deref-3.ensures.value) (record {
       once = AreNew-inherited own above c.self.invariant.own_new c.self.invariant.above_new;
       short = c.self.invariant.short;

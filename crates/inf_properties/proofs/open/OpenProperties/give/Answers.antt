@@ -7,10 +7,7 @@ use Rattle.inf_properties.proofs.open.OpenProperties.give.Goals as goal
 
 pub invariant_of-self-2 : goal.invariant_of-self-2
 invariant_of-self-2 c =
-    let o = c.self.inside in
-    let own = o.own.items in
-    let above = o.above.items in
-    let n = c.args.number in
+    let o = c.self.inside in let own = o.own.items in let above = o.above.items in let n = c.args.number in
     let p = given_first n c.args.is_additive c.args.first in
     let is : c.add_last.new.properties.items ≡ own ++ p ∷ [] =
     c.in_ok-add_last.ensures.ok ∙ ap (λ (vs : List Value). own ++ record p { values = vs } ∷ []) c.in_ok-values.ensures in

@@ -20,8 +20,7 @@ invariant_of-self c =
 
 pub place_all-requires-clause-once : goal.place_all-requires-clause-once
 place_all-requires-clause-once c =
-    let o = c.self.inside in
-    let class = c.args.class.now in
+    let o = c.self.inside in let class = c.args.class.now in
     let above : c.in_ok-above.above.items ≡ inherited o.above.items class =
     c.in_ok-above.ensures ∙ ap (λ ps. inherited ps c.as_slice.result.now) c.deref.ensures.value
     ∙ ap (inherited o.above.items) c.as_slice.ensures.value in
@@ -30,8 +29,7 @@ place_all-requires-clause-once c =
 
 pub invariant_of-self-2 : goal.invariant_of-self-2
 invariant_of-self-2 c =
-    let o = c.self.inside in
-    let class = c.args.class.now in
+    let o = c.self.inside in let class = c.args.class.now in
     let above : c.in_ok-above.above.items ≡ inherited o.above.items class =
     c.in_ok-above.ensures ∙ ap (λ ps. inherited ps c.as_slice.result.now) c.deref.ensures.value
     ∙ ap (inherited o.above.items) c.as_slice.ensures.value in
@@ -43,8 +41,7 @@ invariant_of-self-2 c =
     let sized : c.in-Some.size ≡ total o.owner (inherited o.own.items (inherited o.above.items class)) =
     c.in-Some.ensures.some ∙ ap (total o.owner) (c.deref-7.ensures.value ∙ all) in
     let small : c.in-Some.size.bytes < 2 ^ 32 = omega (arith, c.in-Some.ensures.within) in
-    let places = c.place_all.new.places in
-    let count = c.place_all.auto.places ∙ c.as_mut_slice.ensures.len in
+    let places = c.place_all.new.places in let count = c.place_all.auto.places ∙ c.as_mut_slice.ensures.len in
     let written = take_front c.cover_all.new.places.len places (drop (length places) c.cover_all.new.places.items) count in
     let at : AreAt 0 places (inherited o.above.items class) =
     subst (AreAt 0 places) (c.deref-9.ensures.value ∙ above) c.place_all.ensures in

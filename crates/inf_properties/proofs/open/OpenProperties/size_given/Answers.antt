@@ -12,8 +12,7 @@ changed-requires c =
     c.counts.ensures.count c.counts.ensures.later c.above_of.ensures.values in
     let changes = given_fits _ s c.self.inside.size c.above_of.result.0 c.in_ok-gained.gained c.args.number c.args.is_additive c.args.first
     c.self.view_is c.self.invariant.above_new c.requires c.self.invariant.sized c.above_of.ensures.size gained in
-    let little = c.in_ok-gained.ensures.little in
-    let invariant = c.self.invariant in
+    let little = c.in_ok-gained.ensures.little in let invariant = c.self.invariant in
     record {
       bytes = changes.lost_bytes;
       fixups = changes.lost_fixups;

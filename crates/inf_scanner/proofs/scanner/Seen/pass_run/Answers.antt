@@ -10,9 +10,7 @@ calmed seen kept = record { first = seen.first; kept = kept; lines = record { li
 
 pub returns-clause-found : goal.returns-clause-found
 returns-clause-found c = λ set rest.
-    let bytes = c.args.bytes.now in
-    let len = c.run_len-len.result in
-    let old : Seen = c.args.self.now in
+    let bytes = c.args.bytes.now in let len = c.run_len-len.result in let old : Seen = c.args.self.now in
     elim c.if-not-is_gap.branch [
       | then-not-is_gap+in_ok-extend w ↦
           ap (λ (x : Seen). find set c.args.limit c.args.state (calmed x x.spelling) (drop len bytes ++ rest)) w.self-is

@@ -25,43 +25,34 @@ returns-then-matches-clause-called g c =
 
 pub returns-in-Include-clause-called : goal.returns-in-Include-clause-called
 returns-in-Include-clause-called g c =
-    let text = c.as_slice.result.now in
-    let unit = c.in-Include.unit in
+    let text = c.as_slice.result.now in let unit = c.in-Include.unit in
     let going = sym c.is_over.ensures ∙ c.if-is_over.false in
-    let reads : is_mode_ended c.args.self.now.progress.reader.mode ≡ false =
-    elim c.match-matches.branch [
+    let reads : is_mode_ended c.args.self.now.progress.reader.mode ≡ false = elim c.match-matches.branch [
       | in-Ended w ↦ (let never = sym w.matches-is ∙ c.if-matches.false in cc)
       | in_default w ↦ not_ended c.args.self.now.progress.reader.mode w.in_default.not-Ended
     ] in
     let asks = sym c.in-Include.ensures.asked ∙ ap (λ (t : List ℕ). Include t unit) (sym c.as_slice.ensures.value) in
-    promised_from_all refl refl c.include.ensures.called
-    (λ s o start step told. step told
+    promised_from_all refl refl c.include.ensures.called (λ s o start step told. step told
     ∙ ap (λ (w : Compilation). included s o unit text (record (state s start (g.F.Files.openings c.args.files.now) c.args.self.now told)
-    { work = w })) c.take_asked.ensures.nothing
-    ∙ carries_out s o (Include text unit) _ going reads asks)
+    { work = w })) c.take_asked.ensures.nothing ∙ carries_out s o (Include text unit) _ going reads asks)
     (λ failed s o start e h. including_stops going reads asks
     (λ told. ap (λ (w : Compilation). record (state s start (g.F.Files.openings c.args.files.now) c.args.self.now told) { work = w })
     c.take_asked.ensures.nothing) h) (λ never. never)
 
 pub returns-in-Characters-clause-called : goal.returns-in-Characters-clause-called
 returns-in-Characters-clause-called g c =
-    let f = g.F.Files in
-    let set = c.in-Characters.set in
+    let f = g.F.Files in let set = c.in-Characters.set in
     let going = sym c.is_over.ensures ∙ c.if-is_over.false in
-    let reads : is_mode_ended c.args.self.now.progress.reader.mode ≡ false =
-    elim c.match-matches.branch [
+    let reads : is_mode_ended c.args.self.now.progress.reader.mode ≡ false = elim c.match-matches.branch [
       | in-Ended w ↦ (let never = sym w.matches-is ∙ c.if-matches.false in cc)
       | in_default w ↦ not_ended c.args.self.now.progress.reader.mode w.in_default.not-Ended
     ] in
-    let asks = sym c.in-Characters.ensures.asked in
-    let turned = c.set_characters.ensures in
+    let asks = sym c.in-Characters.ensures.asked in let turned = c.set_characters.ensures in
     promised_went (turned_went f c.args.files.now set c.args.self.now.open_files c.set_characters.new.self turned.value turned.nested
     turned.given_all turned.given)
     refl (ap (λ (o : Open). o.nest.limit) turned.value) (λ goes. ap (λ (o : Open). o.lexer.has_failed) turned.value ∙ goes)
-    (fit_none f c.args.files.now c.args.self.now.open_files) refl
-    (λ honest start nested told.
-    let s = f.sources c.args.files.now in
-    let old = f.openings c.args.files.now in
+    (fit_none f c.args.files.now c.args.self.now.open_files) refl (λ honest start nested told.
+    let s = f.sources c.args.files.now in let old = f.openings c.args.files.now in
     let was = state s start old c.args.self.now told in
     ap (λ (w : Compilation). record was { nesting = nesting s start old c.set_characters.new.self; work = w }) c.take_asked.ensures.nothing
     ∙ ap (λ (n : Nesting). record (asked_nothing was) { nesting = n }) (turned.nesting s start old)
@@ -69,8 +60,7 @@ returns-in-Characters-clause-called g c =
 
 pub returns-in-Characters-clause-goes_on : goal.returns-in-Characters-clause-goes_on
 returns-in-Characters-clause-goes_on g c =
-    let reads : is_mode_ended c.args.self.now.progress.reader.mode ≡ false =
-    elim c.match-matches.branch [
+    let reads : is_mode_ended c.args.self.now.progress.reader.mode ≡ false = elim c.match-matches.branch [
       | in-Ended w ↦ (let never = sym w.matches-is ∙ c.if-matches.false in cc)
       | in_default w ↦ not_ended c.args.self.now.progress.reader.mode w.in_default.not-Ended
     ] in

@@ -10,13 +10,11 @@ use Rattle.inf_session.proofs.Promises.{told_halt}
 use Rattle.inf_session.proofs.session.Session.follow.Goals as goal
 
 pub returns-in_err-carry_out-clause-called : goal.returns-in_err-carry_out-clause-called
-returns-in_err-carry_out-clause-called g c =
-    promised_as (told_halt c.from_residual.result _ _ c.from_residual.ensures.1)
+returns-in_err-carry_out-clause-called g c = promised_as (told_halt c.from_residual.result _ _ c.from_residual.ensures.1)
     (promised_so c.in_err-carry_out.ensures.called (λ s o start. tt) (λ failed s o start h. followed_stops h) (λ never. never))
 
 pub returns-in_err-rest-clause-called : goal.returns-in_err-rest-clause-called
-returns-in_err-rest-clause-called g c =
-    promised_as (told_halt c.from_residual-in_err-rest.result _ _ c.from_residual-in_err-rest.ensures.1)
+returns-in_err-rest-clause-called g c = promised_as (told_halt c.from_residual-in_err-rest.result _ _ c.from_residual-in_err-rest.ensures.1)
     (promised_on (Some Fault.Memory) c.in_ok-carry_out.ensures.called c.rest.ensures.files c.rest.ensures.setup (λ s o start. tt)
     (λ failed s o start step. record {
       opened = inr (λ told. ap (λ (x : State). x.nesting.openings) (step told) ∙ ap (λ (n : Nesting). n.openings)
@@ -25,8 +23,7 @@ returns-in_err-rest-clause-called g c =
     }) tt)
 
 pub returns-clause-called : goal.returns-clause-called
-returns-clause-called g c =
-    promised_on None c.in_ok-carry_out.ensures.called c.rest.ensures.files c.rest.ensures.setup
+returns-clause-called g c = promised_on None c.in_ok-carry_out.ensures.called c.rest.ensures.files c.rest.ensures.setup
     (λ s o start step told. c.in_ok-rest.ensures.rested s start (g.F.Files.openings c.carry_out.new.files) told ∙ ap rested (step told))
     (λ failed s o start. tt) tt
 

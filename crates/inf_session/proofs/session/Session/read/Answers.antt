@@ -18,17 +18,13 @@ loop-self-init g c = record {
 
 pub loop-self-preserved : goal.loop-self-preserved
 loop-self-preserved g c =
-    let m = g.M.Sink in
-    let inv = c.loop-self.invariant in
-    let took = c.in_ok-read_part.ensures in
+    let m = g.M.Sink in let inv = c.loop-self.invariant in let took = c.in_ok-read_part.ensures in
     record {
-      called = promised_then inv.called took.called
-          (λ s o start a b. (
-            a.0 + b.0,
-            writes_on (λ told. run_sum g.B.Bounds.most s o a.0 b.0
-                (state s start (g.F.Files.openings c.args.files.now) c.args.self.now told))
-                a.1 b.1.1,
-          )) (λ rose s o start. tt)
+      called = promised_then inv.called took.called (λ s o start a b. (
+        a.0 + b.0,
+        writes_on (λ told. run_sum g.B.Bounds.most s o a.0 b.0
+            (state s start (g.F.Files.openings c.args.files.now) c.args.self.now told)) a.1 b.1.1,
+      )) (λ rose s o start. tt)
           (λ r. rose_earlier (m.failures c.args.messages.now) (m.failures c.loop-self.messages) (m.failures c.read_part.new.messages)
           inv.wrote.appends.failures r);
       wrote = wrote_then inv.wrote took.wrote;
@@ -38,23 +34,19 @@ loop-self-preserved g c =
     }
 
 pub loop-self-smaller : goal.loop-self-smaller
-loop-self-smaller g c =
-    ends_or_falls (ended c.read_part.new.self) (ended c.loop-self.self) (weight c.loop-self.self.open_files)
+loop-self-smaller g c = ends_or_falls (ended c.read_part.new.self) (ended c.loop-self.self) (weight c.loop-self.self.open_files)
     (weight c.read_part.new.self.open_files) (sym c.has_ended.ensures ∙ c.loop-self-test.true) c.in_ok-read_part.ensures.stepped.falls
 
 pub returns-in_err-read_part-clause-called : goal.returns-in_err-read_part-clause-called
 returns-in_err-read_part-clause-called g c =
-    let m = g.M.Sink in
-    let inv = c.loop-self.invariant in
+    let m = g.M.Sink in let inv = c.loop-self.invariant in
     promised_as (told_fault c.from_residual.result _ c.from_residual.ensures.1)
-    (promised_then inv.called c.in_err-read_part.ensures.called (λ s o start. tt)
-    (λ rose s o start a h. run_breaks a.0 a.1 h rose)
+    (promised_then inv.called c.in_err-read_part.ensures.called (λ s o start. tt) (λ rose s o start a h. run_breaks a.0 a.1 h rose)
     (λ r. rose_earlier (m.failures c.args.messages.now) (m.failures c.loop-self.messages) (m.failures c.read_part.new.messages)
     inv.wrote.appends.failures r))
 
 pub returns-in_err-read_part-clause-wrote : goal.returns-in_err-read_part-clause-wrote
-returns-in_err-read_part-clause-wrote g c =
-    wrote_as (told_fault c.from_residual.result _ c.from_residual.ensures.1)
+returns-in_err-read_part-clause-wrote g c = wrote_as (told_fault c.from_residual.result _ c.from_residual.ensures.1)
     (wrote_then c.loop-self.invariant.wrote c.in_err-read_part.ensures.wrote)
 
 pub returns-in_err-read_part-clause-is_open : goal.returns-in_err-read_part-clause-is_open

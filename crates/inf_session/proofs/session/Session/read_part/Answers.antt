@@ -27,9 +27,7 @@ loop-self-init g c =
 
 pub loop-self-preserved : goal.loop-self-preserved
 loop-self-preserved g c =
-    let m = g.M.Sink in
-    let inv = c.loop-self.invariant in
-    let took = c.in_default-turn.ensures in
+    let m = g.M.Sink in let inv = c.loop-self.invariant in let took = c.in_default-turn.ensures in
     let going : ended c.args.self.now ≡ false = sym c.has_ended.ensures ∙ c.if-has_ended.false in
     let open_still : parted c.loop-self.self ≡ false = sym c.has_parted.ensures ∙ c.loop-self-test.true in
     record {
@@ -86,8 +84,7 @@ returns-then-has_ended-clause-stepped g c =
 -- no room for the name of the innermost file
 
 pub returns-in_err-make_room-clause-called : goal.returns-in_err-make_room-clause-called
-returns-in_err-make_room-clause-called g c =
-    promised_as (told_fault c.from_residual.result _ c.from_residual.ensures.1)
+returns-in_err-make_room-clause-called g c = promised_as (told_fault c.from_residual.result _ c.from_residual.ensures.1)
     (promised_here (Some Fault.Memory) refl refl (λ s o start. tt) (λ failed s o start. none_breaks) tt)
 
 pub returns-in_err-make_room-clause-wrote : goal.returns-in_err-make_room-clause-wrote
@@ -102,8 +99,7 @@ returns-in_err-make_room-clause-stepped g c =
 pub returns-in-Err-clause-called : goal.returns-in-Err-clause-called
 returns-in-Err-clause-called g c =
     let going : ended c.args.self.now ≡ false = sym c.has_ended.ensures ∙ c.if-has_ended.false in
-    promised_as (ap (λ (e : Fault). Some e) (sym c.fault_of.ensures))
-    (promised_from refl refl c.in-Err.ensures.called (λ s o start. tt)
+    promised_as (ap (λ (e : Fault). Some e) (sym c.fault_of.ensures)) (promised_from refl refl c.in-Err.ensures.called (λ s o start. tt)
     (λ failed s o start h. turn_breaks zero h (writes_nothing (g.M.Sink.taken c.args.messages.now) (λ told. refl)) (λ told. going) (λ r. r))
     (λ r. r))
 
@@ -115,19 +111,16 @@ returns-in-Err-clause-stepped g c = stepped_lost (Err c.fault_of.result) refl (s
 
 pub returns-in-Err-turn-clause-called : goal.returns-in-Err-turn-clause-called
 returns-in-Err-turn-clause-called g c =
-    let m = g.M.Sink in
-    let inv = c.loop-self.invariant in
+    let m = g.M.Sink in let inv = c.loop-self.invariant in
     let open_still : parted c.loop-self.self ≡ false = sym c.has_parted.ensures ∙ c.loop-self-test.true in
     promised_as (ap (λ (e : Fault). Some e) (sym c.fault_of-in-Err-turn.ensures))
-    (promised_then inv.called c.in-Err-turn.ensures.called (λ s o start. tt)
-    (λ rose s o start led h. turn_breaks (suc led.0) h led.1.1
+    (promised_then inv.called c.in-Err-turn.ensures.called (λ s o start. tt) (λ rose s o start led h. turn_breaks (suc led.0) h led.1.1
     (λ told. still_going (state s start (g.F.Files.openings c.loop-self.files) c.loop-self.self told) open_still) rose)
     (λ r. rose_earlier (m.failures c.args.messages.now) (m.failures c.loop-self.messages) (m.failures c.turn-in-loop-self.new.messages)
     inv.wrote.appends.failures r))
 
 pub returns-in-Err-turn-clause-wrote : goal.returns-in-Err-turn-clause-wrote
-returns-in-Err-turn-clause-wrote g c =
-    wrote_as (ap (λ (e : Fault). Some e) (sym c.fault_of-in-Err-turn.ensures))
+returns-in-Err-turn-clause-wrote g c = wrote_as (ap (λ (e : Fault). Some e) (sym c.fault_of-in-Err-turn.ensures))
     (wrote_then c.loop-self.invariant.wrote c.in-Err-turn.ensures.wrote)
 
 pub returns-in-Err-turn-clause-stepped : goal.returns-in-Err-turn-clause-stepped
@@ -137,8 +130,7 @@ returns-in-Err-turn-clause-stepped g c =
 -- a part was read
 
 pub returns-clause-called : goal.returns-clause-called
-returns-clause-called g c =
-    promised_so c.loop-self.invariant.called (λ s o start led. (suc led.0, led.1)) (λ failed s o start. tt) (λ r. r)
+returns-clause-called g c = promised_so c.loop-self.invariant.called (λ s o start led. (suc led.0, led.1)) (λ failed s o start. tt) (λ r. r)
 
 pub returns-clause-wrote : goal.returns-clause-wrote
 returns-clause-wrote g c = c.loop-self.invariant.wrote

@@ -8,8 +8,7 @@ use Rattle.inf_session.proofs.session.Session.read_part.Given as goal
 -- some turns of a part led here from the start
 abbrev pub invariant-loop-self : goal.invariant-loop-self
 invariant-loop-self g l =
-    let f = g.F.Files in
-    let m = g.M.Sink in
+    let f = g.F.Files in let m = g.M.Sink in
     record {
       called : Promised f l.fn.files l.files l.fn.self l.self None
           (λ s o start. PartSoFar g.B.Bounds.most s o (state s start (f.openings l.fn.files) l.fn.self)

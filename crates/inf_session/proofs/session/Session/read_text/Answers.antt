@@ -12,11 +12,8 @@ new-requires g c = omega (arith, c.requires, c.text_of-text.ensures.few)
 
 pub returns-clause-read : goal.returns-clause-read
 returns-clause-read g c =
-    let o = chosen c.args.self.now.setup in
-    let n = c.args.number in
-    let text = c.text_of-text.result.now in
-    let first = c.in_ok-lexer.lexer in
-    let lines = c.take_text.new.self.progress.work.report.lines in
+    let o = chosen c.args.self.now.setup in let n = c.args.number in let text = c.text_of-text.result.now in
+    let first = c.in_ok-lexer.lexer in let lines = c.take_text.new.self.progress.work.report.lines in
     let bytes = c.text_of-text.ensures.text in
     let files = c.in_ok-take_text.ensures.files ∙ c.in_ok-begin_text.ensures.files in
     let w = c.in_ok-flush.ensures.writes in
@@ -28,13 +25,11 @@ returns-clause-read g c =
           record {
             lines = lines;
             takes = w.0;
-            same = λ told.
-                ap (λ (r : Reported). record (after (told ++ lines)) {
-                  work = record (after (told ++ lines)).work { report = r };
-                  is_over = true;
-                  passed = n;
-                }) c.in_ok-flush.ensures.none
-                ∙ text_leads g.B.Bounds.most o n was begun after first c.take_text.new.lexer told
+            same = λ told. ap (λ (r : Reported). record (after (told ++ lines)) {
+              work = record (after (told ++ lines)).work { report = r };
+              is_over = true;
+              passed = n;
+            }) c.in_ok-flush.ensures.none ∙ text_leads g.B.Bounds.most o n was begun after first c.take_text.new.lexer told
                 (c.in_ok-begin_text.ensures.begun sources start now told)
                 (text_front_is o c.args.self.now sources start now told first c.characters-set.result c.of-limit.result n text
                 c.in_ok-lexer.ensures c.characters-set.ensures.innermost c.of-limit.ensures.value bytes)
@@ -51,8 +46,7 @@ returns-clause-read g c =
     }
 
 pub returns-in_err-lexer-clause-read : goal.returns-in_err-lexer-clause-read
-returns-in_err-lexer-clause-read g c =
-    supplies_none (told_fault c.from_residual.result _ c.from_residual.ensures.1) refl refl
+returns-in_err-lexer-clause-read g c = supplies_none (told_fault c.from_residual.result _ c.from_residual.ensures.1) refl refl
     (λ o s. text_begins g.B.Bounds.most o c.args.number s)
 
 pub returns-in_err-begin_text-clause-read : goal.returns-in_err-begin_text-clause-read
@@ -68,11 +62,8 @@ returns-in_err-take_text-clause-read g c =
 
 pub returns-in_err-flush-clause-read : goal.returns-in_err-flush-clause-read
 returns-in_err-flush-clause-read g c =
-    let o = chosen c.args.self.now.setup in
-    let n = c.args.number in
-    let text = c.text_of-text.result.now in
-    let first = c.in_ok-lexer.lexer in
-    let bytes = c.text_of-text.ensures.text in
+    let o = chosen c.args.self.now.setup in let n = c.args.number in let text = c.text_of-text.result.now in
+    let first = c.in_ok-lexer.lexer in let bytes = c.text_of-text.ensures.text in
     let files = c.in_ok-take_text.ensures.files ∙ c.in_ok-begin_text.ensures.files in
     let w = c.in_err-flush.ensures.writes in
     supplies_as (told_fault c.from_residual-in_err-flush.result _ c.from_residual-in_err-flush.ensures.1) (record {

@@ -4,8 +4,7 @@ use Rattle.inf_session.proofs.{Leadings.writes_nothing, Promises.told_fault, Pro
 use Rattle.inf_session.proofs.session.Session.read_veneer.Goals as goal
 
 pub returns-in_ok-read_text-in-Some-clause-supplied : goal.returns-in_ok-read_text-in-Some-clause-supplied
-returns-in_ok-read_text-in-Some-clause-supplied g c =
-    supplies_so refl c.in_ok-read_text-in-Some.ensures.read
+returns-in_ok-read_text-in-Some-clause-supplied g c = supplies_so refl c.in_ok-read_text-in-Some.ensures.read
     (λ sources start now told. ap (λ next. supplied_at g.B.Bounds.most (chosen c.args.self.now.setup) next
     (state sources start now c.args.self.now told)) c.in-Some.ensures.next)
 

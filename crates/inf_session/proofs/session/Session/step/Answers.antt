@@ -18,8 +18,7 @@ returns-then-has_ended-clause-called g c =
     let supplied = c.step_veneer.ensures.supplied in
     let never : ended c.args.self.now ≡ false → ⊥ = λ going. let no : false ≡ true = sym going ∙ over in cc in
     promised_here_all _ supplied.files supplied.setup (λ s o start going. absurd (never going))
-    (λ failed s o start e going. absurd (never going))
-    supplied.cause
+    (λ failed s o start e going. absurd (never going)) supplied.cause
 
 pub returns-then-has_ended-clause-wrote : goal.returns-then-has_ended-clause-wrote
 returns-then-has_ended-clause-wrote g c = c.step_veneer.ensures.supplied.wrote
@@ -29,9 +28,7 @@ returns-then-has_ended-clause-supplied g c = λ over. (c.step_veneer.ensures.sup
 
 pub returns-then-has_ended-clause-stepped : goal.returns-then-has_ended-clause-stepped
 returns-then-has_ended-clause-stepped g c =
-    let s = c.args.self.now in
-    let t = c.step_veneer.new.self in
-    let call = c.step_veneer.ensures in
+    let s = c.args.self.now in let t = c.step_veneer.new.self in let call = c.step_veneer.ensures in
     let over : ended s ≡ true = sym c.has_ended.ensures ∙ c.if-has_ended.true in
     record {
       parted = on_ok_weaker c.step_veneer.result (λ (e : ended t ≡ true). parted_by t e) (call.ended over);
@@ -61,9 +58,7 @@ returns-clause-supplied g c = λ over. let never : false ≡ true = sym (sym c.h
 
 pub returns-clause-stepped : goal.returns-clause-stepped
 returns-clause-stepped g c =
-    let s = c.args.self.now in
-    let t = c.read_part.new.self in
-    let call = c.read_part.ensures.stepped in
+    let s = c.args.self.now in let t = c.read_part.new.self in let call = c.read_part.ensures.stepped in
     let going : ended s ≡ false = sym c.has_ended.ensures ∙ c.if-has_ended.false in
     record {
       parted = call.parted;
@@ -85,8 +80,7 @@ pub returns-clause-set : goal.returns-clause-set
 returns-clause-set g c = c.read_part.ensures.called.set c.requires.set
 
 pub returns-clause-goes : goal.returns-clause-goes
-returns-clause-goes g c =
-    goes_on _ _ c.read_part.result c.requires.goes c.read_part.ensures.called.goes
+returns-clause-goes g c = goes_on _ _ c.read_part.result c.requires.goes c.read_part.ensures.called.goes
 
 pub returns-then-has_ended-clause-is_open : goal.returns-then-has_ended-clause-is_open
 returns-then-has_ended-clause-is_open g c =

@@ -17,11 +17,9 @@ loop-was_read-init g c = record {
 
 pub loop-was_read-preserved : goal.loop-was_read-preserved
 loop-was_read-preserved g c =
-    let inv = c.loop-was_read.invariant in
-    let took = c.in_ok-was_read.ensures in
+    let inv = c.loop-was_read.invariant in let took = c.in_ok-was_read.ensures in
     record {
-      led = λ sources start now.
-          leads_then g.B.Bounds.most (chosen c.args.self.now.setup) (inv.led sources start now)
+      led = λ sources start now. leads_then g.B.Bounds.most (chosen c.args.self.now.setup) (inv.led sources start now)
           (subst (λ (o : Choices). Writes (next_supplied g.B.Bounds.most o) (state sources start now c.loop-was_read.self)
           (state sources start now c.read_veneer.new.self) (g.M.Sink.taken c.loop-was_read.messages)
           (g.M.Sink.taken c.read_veneer.new.messages)) (ap chosen inv.setup) (took.supplied.made sources start now));
@@ -55,14 +53,11 @@ returns g c =
 
 pub returns-in_err-was_read : goal.returns-in_err-was_read
 returns-in_err-was_read g c =
-    let m = g.M.Sink in
-    let inv = c.loop-was_read.invariant in
-    let took = c.in_err-was_read.ensures.supplied in
+    let m = g.M.Sink in let inv = c.loop-was_read.invariant in let took = c.in_err-was_read.ensures.supplied in
     record {
       supplied = supplies_as (told_fault c.from_residual.result _ c.from_residual.ensures.1) (record {
         made = λ sources start now. tt;
-        broken = λ sources start now.
-            leads_cut g.B.Bounds.most (chosen c.args.self.now.setup) (inv.led sources start now)
+        broken = λ sources start now. leads_cut g.B.Bounds.most (chosen c.args.self.now.setup) (inv.led sources start now)
             (subst (λ (o : Choices). CutsShort (next_supplied g.B.Bounds.most o) (state sources start now c.loop-was_read.self)
             (m.taken c.loop-was_read.messages) (m.taken c.read_veneer.new.messages)) (ap chosen inv.setup) (took.broken sources start now));
         files = took.files ∙ inv.files;

@@ -13,16 +13,13 @@ returns-then-has_ended-clause-turned g c = λ sources start now told.
 
 pub loop-left-preserved : goal.loop-left-preserved
 loop-left-preserved g c =
-    let inv = c.loop-left.invariant in
-    let took = c.in_ok-turn_text.ensures in
-    let o = chosen c.args.self.now.setup in
+    let inv = c.loop-left.invariant in let took = c.in_ok-turn_text.ensures in let o = chosen c.args.self.now.setup in
     record {
       led = λ sources start now told.
           let s = in_text c.loop-left.lexer (state sources start now c.loop-left.self told) in
           let t = in_text c.turn_text.new.lexer (state sources start now c.turn_text.new.self told) in
           let some : 0 < c.loop-left.left = omega (arith, c.loop-left-test.true) in
-          let turned : t ≡ rested (stepped g.B.Bounds.most o s) =
-          took.turned sources start now told
+          let turned : t ≡ rested (stepped g.B.Bounds.most o s) = took.turned sources start now told
           ∙ ap (λ (p : Choices). rested (stepped g.B.Bounds.most p s)) (ap chosen inv.setup) in
           text_next g.B.Bounds.most o c.loop-left.left s t some (sym c.has_ended.ensures ∙ c.if-has_ended.false) turned
           ∙ inv.led sources start now told;

@@ -20,9 +20,7 @@ use Rattle.inf_session.proofs.session.Session.take_token.Goals as goal
 
 pub returns-clause-moves : goal.returns-clause-moves
 returns-clause-moves g c =
-    let before = c.args.self.now in
-    let token = c.in-Ok.token in
-    let took = c.in-Ok.ensures.took.0 in
+    let before = c.args.self.now in let token = c.in-Ok.token in let took = c.in-Ok.ensures.took.0 in
     let stand = standing before.progress in
     let context : Context = record { names = c.names.result.now.names; set = c.characters.result; settings = before.setup.settings.now } in
     let t = token_at (is_between stand.reading) token.kind c.spelling.result.now token.place stand.work in
@@ -34,18 +32,13 @@ returns-clause-moves g c =
 
 pub returns-in-Err-Read-clause-called : goal.returns-in-Err-Read-clause-called
 returns-in-Err-Read-clause-called g c =
-    let files = g.F.Files in
-    let s = files.sources c.args.files.now in
-    let old = files.openings c.args.files.now in
-    let before = c.args.self.now.open_files in
-    let after = c.next.new.self in
-    let next = c.in-Err-Read.ensures in
+    let files = g.F.Files in let s = files.sources c.args.files.now in let old = files.openings c.args.files.now in
+    let before = c.args.self.now.open_files in let after = c.next.new.self in let next = c.in-Err-Read.ensures in
     let reads = rw c.in-Err-Read.field-0-is at next.reads in
     let unreadable : IsUnreadable files c.args.files.now c.next.new.files before after =
     elim reads.on.cause [ inl rose ↦ inl rose | inr long ↦ inr (inl long) ] in
     promised_as (ap (λ (e : Fault). Some e) (sym c.lose.ensures))
-    (promised_failed reads.went refl (ap (λ (n : Nest). n.limit) reads.nest) tt unreadable
-    (λ honest start nested. record {
+    (promised_failed reads.went refl (ap (λ (n : Nest). n.limit) reads.nest) tt unreadable (λ honest start nested. record {
       opened = inl (λ told. reads.opened honest start nested);
       unread = λ told. record {
         cause = reads.on.cause;
@@ -53,8 +46,7 @@ returns-in-Err-Read-clause-called g c =
         goes_on = reads.on.on;
         openings = reads.opened honest start nested;
         names = ap (λ (n : Nest). n.names) reads.nest;
-        numbers =
-            ap (λ (n : ℕ). n ∷ files_of (lexers_of (reverse after.outer))) reads.file
+        numbers = ap (λ (n : ℕ). n ∷ files_of (lexers_of (reverse after.outer))) reads.file
             ∙ ap (λ (fs : List OpenFile). before.lexer.file ∷ files_of (lexers_of (reverse fs))) reads.outer
             ∙ sym (files_are s start old before nested);
         name_is = c.give_room-name.ensures ∙ ap (λ (n : Nest). unwrap_or (slice_get n.names after.lexer.file) []) reads.nest
@@ -80,12 +72,10 @@ returns-clause-called g c =
     let read = c.in-Ok.ensures.reads in
     promised_went read.went refl (ap (λ (n : Nest). n.limit) read.nest) (λ goes. c.in-Ok.ensures.failed) read.fits read.on.calm
     (λ honest start nested told.
-    let files = g.F.Files in
-    let token = c.in-Ok.token in
+    let files = g.F.Files in let token = c.in-Ok.token in
     let before : State = state (files.sources c.args.files.now) start (files.openings c.args.files.now) c.args.self.now told in
     let now = nesting (files.sources c.args.files.now) start (files.openings c.next.new.files) c.next.new.self in
-    let reads = c.in-Ok.ensures.token honest start nested in
-    let bytes = c.spelling.result.now in
+    let reads = c.in-Ok.ensures.token honest start nested in let bytes = c.spelling.result.now in
     let o = chosen c.args.self.now.setup in
     let context : Context = record {
       names = c.names.result.now.names;
@@ -95,19 +85,16 @@ returns-clause-called g c =
     let named : c.names.result.now.names ≡ before.nesting.names = ap (λ (n : Nest). n.names) (c.names.ensures ∙ read.nest) in
     let set_is : c.characters.result ≡ before.nesting.cursor.set =
     c.characters.ensures.innermost ∙ ap (λ (n : Nesting). n.cursor.set) reads.goes_on in
-    let same : context ≡ context_of o before =
-    ap (λ (names : FileNames). record context { names = names }) named
+    let same : context ≡ context_of o before = ap (λ (names : FileNames). record context { names = names }) named
     ∙ ap (λ (set : CharSet). record context { names = before.nesting.names; set = set }) set_is in
     let x : Taken = taken_as c.take.new.conditionals (standing c.take.new.progress) c.in_ok-self.field-0 in
     let t = token_at (is_between before.reading) token.kind bytes token.place before.work in
     step_is g.B.Bounds.most o before now x context t reads.goes_on same
     (token_is before (is_between before.reading) token.kind bytes token.place refl reads.kind reads.place (c.spelling.ensures ∙
-    reads.bytes))
-    c.in_ok-self.ensures)
+    reads.bytes)) c.in_ok-self.ensures)
 
 pub take-requires : goal.take-requires
-take-requires g c =
-    subst (λ (bytes : List ℕ). is_short c.in-Ok.token.kind bytes ≡ true) (sym c.spelling.ensures)
+take-requires g c = subst (λ (bytes : List ℕ). is_short c.in-Ok.token.kind bytes ≡ true) (sym c.spelling.ensures)
     (short_by c.in-Ok.token.kind c.next.new.self.lexer.kept.bytes c.in-Ok.ensures.took.0.short)
 
 pub give_room-name-requires : goal.give_room-name-requires
@@ -120,9 +107,7 @@ returns-clause-room g c =
 
 pub returns-clause-longest : goal.returns-clause-longest
 returns-clause-longest g c = λ few_before.
-    let before = c.args.self.now in
-    let token = c.in-Ok.token in
-    let most = before.open_files.nest.limit in
+    let before = c.args.self.now in let token = c.in-Ok.token in let most = before.open_files.nest.limit in
     let stand = standing before.progress in
     let context : Context = record { names = c.names.result.now.names; set = c.characters.result; settings = before.setup.settings.now } in
     let t = token_at (is_between stand.reading) token.kind c.spelling.result.now token.place stand.work in

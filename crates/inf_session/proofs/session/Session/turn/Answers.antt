@@ -19,8 +19,7 @@ pub follow-requires-clause-set : goal.follow-requires-clause-set
 follow-requires-clause-set g c = c.take_token.ensures.called.set c.requires.set
 
 pub returns-in_err-take_token-clause-called : goal.returns-in_err-take_token-clause-called
-returns-in_err-take_token-clause-called g c =
-    promised_as (told_halt c.from_residual.result _ _ c.from_residual.ensures.1)
+returns-in_err-take_token-clause-called g c = promised_as (told_halt c.from_residual.result _ _ c.from_residual.ensures.1)
     (promised_so c.in_err-take_token.ensures.called (λ s o start. tt) (λ failed s o start h. token_breaks h) (λ never. absurd never))
 
 pub returns-in_err-follow-clause-called : goal.returns-in_err-follow-clause-called
@@ -34,22 +33,19 @@ returns-in_err-flush-clause-called g c =
     let w = c.in_err-flush.ensures.writes in
     promised_as (told_halt c.from_residual-in_err-flush.result _ _ c.from_residual-in_err-flush.ensures.1)
     (promised_on (Some Fault.Messages) (token_followed g.B.Bounds.most c.in_ok-take_token.ensures.called c.in_ok-follow.ensures.called)
-    refl refl
-    (λ s o start. tt)
+    refl refl (λ s o start. tt)
     (λ failed s o start step. messages_break c.follow.new.self step w.0.takes (record { rest = w.0.rest; is_cut = w.0.is_cut })) w.2)
 
 pub returns-clause-called : goal.returns-clause-called
 returns-clause-called g c =
-    let now = c.follow.new.self in
-    let lines = now.progress.work.report.lines in
+    let now = c.follow.new.self in let lines = now.progress.work.report.lines in
     promised_on None (token_followed g.B.Bounds.most c.in_ok-take_token.ensures.called c.in_ok-follow.ensures.called) refl refl
     (λ s o start step. record {
       lines = lines;
       takes = c.in_ok-flush.ensures.writes.0;
-      same = λ told.
-          ap (λ (r : Reported). record (state s start (g.F.Files.openings c.follow.new.files) now (told ++ lines)) {
-            work = record (state s start (g.F.Files.openings c.follow.new.files) now (told ++ lines)).work { report = r };
-          }) c.in_ok-flush.ensures.none ∙ ap told_out (step told);
+      same = λ told. ap (λ (r : Reported). record (state s start (g.F.Files.openings c.follow.new.files) now (told ++ lines)) {
+        work = record (state s start (g.F.Files.openings c.follow.new.files) now (told ++ lines)).work { report = r };
+      }) c.in_ok-flush.ensures.none ∙ ap told_out (step told);
     }) (λ failed s o start. tt) tt
 
 pub returns-in_err-take_token-clause-wrote : goal.returns-in_err-take_token-clause-wrote
@@ -73,19 +69,15 @@ returns-clause-wrote g c =
     }
 
 pub returns-clause-falls : goal.returns-clause-falls
-returns-clause-falls g c =
-    elim c.in_ok-follow.ensures.goes_on [
-      | inl over ↦ inl (ap (λ (r : Reported). c.follow.new.self.is_over || (r.counts.is_over || is_mode_ended
-          c.follow.new.self.progress.reader.mode)) c.in_ok-flush.ensures.none ∙ over)
-      | inr goes ↦ inr (falls c.args.self.now.open_files c.take_token.new.self.open_files c.follow.new.self.open_files
-          (is_mode_ended c.take_token.new.self.progress.reader.mode)
-          c.in_ok-take_token.ensures.same.1.0 c.in_ok-take_token.ensures.moves goes)
-    ]
+returns-clause-falls g c = elim c.in_ok-follow.ensures.goes_on [
+  | inl over ↦ inl (ap (λ (r : Reported). c.follow.new.self.is_over || (r.counts.is_over || is_mode_ended
+      c.follow.new.self.progress.reader.mode)) c.in_ok-flush.ensures.none ∙ over)
+  | inr goes ↦ inr (falls c.args.self.now.open_files c.take_token.new.self.open_files c.follow.new.self.open_files
+      (is_mode_ended c.take_token.new.self.progress.reader.mode) c.in_ok-take_token.ensures.same.1.0 c.in_ok-take_token.ensures.moves goes)
+]
 
 pub returns-clause-longest : goal.returns-clause-longest
 returns-clause-longest g c = λ few.
-    let most = most_quoted (chosen c.args.self.now.setup) in
-    let limit = c.requires.set in
-    subst (λ n. n ≤ most) (sym c.in_ok-follow.ensures.quoted)
-    (subst (λ n. c.take_token.new.self.quoted ≤ n) limit
+    let most = most_quoted (chosen c.args.self.now.setup) in let limit = c.requires.set in
+    subst (λ n. n ≤ most) (sym c.in_ok-follow.ensures.quoted) (subst (λ n. c.take_token.new.self.quoted ≤ n) limit
     (c.in_ok-take_token.ensures.longest (subst (λ n. c.args.self.now.quoted ≤ n) (sym limit) few)))

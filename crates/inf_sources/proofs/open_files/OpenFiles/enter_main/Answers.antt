@@ -1,4 +1,4 @@
-use Rattle.std.proofs.Common.{length, sym, ap, ◌∙◌, arith}
+use Rattle.std.proofs.Common.{length, ap, ◌∙◌, arith}
 use Rattle.std.proofs.Math.Path.{subst⁻¹}
 use Rattle.inf_lexer.specs.{Entering.AreOpened, Names.Nest, Names.number_of, Readers.at_front}
 use Rattle.inf_lexer.proofs.{Opened.none_opened, Reading.fault_is}
@@ -14,8 +14,7 @@ returns-clause-front g c =
     )
 
 pub returns-clause-entered : goal.returns-clause-entered
-returns-clause-entered g c = λ honest.
-    main_entered c.new-names.ensures c.new.ensures.items c.in_ok-lexer.ensures.attempt.entered honest
+returns-clause-entered g c = λ honest. main_entered c.new-names.ensures c.new.ensures.items c.in_ok-lexer.ensures.attempt.entered honest
 
 pub returns-clause-tries : goal.returns-clause-tries
 returns-clause-tries g c = c.in_ok-lexer.ensures.attempt.tries
@@ -29,14 +28,12 @@ pub returns-in_err-lexer-clause-entered : goal.returns-in_err-lexer-clause-enter
 returns-in_err-lexer-clause-entered g c = rw (fault_is c.from_residual.result c.from_residual.ensures) (λ honest. tt)
 
 pub returns-in_err-lexer-clause-refused : goal.returns-in_err-lexer-clause-refused
-returns-in_err-lexer-clause-refused g c =
-    rw (fault_is c.from_residual.result c.from_residual.ensures)
+returns-in_err-lexer-clause-refused g c = rw (fault_is c.from_residual.result c.from_residual.ensures)
     (λ honest. main_refused (g.F.Files.sources c.args.files.now) c.args.name.now c.new-names.ensures
     (c.in_err-lexer.ensures.attempt.leaves honest))
 
 pub returns-in_err-lexer-clause-tries : goal.returns-in_err-lexer-clause-tries
-returns-in_err-lexer-clause-tries g c =
-    rw (fault_is c.from_residual.result c.from_residual.ensures) c.in_err-lexer.ensures.attempt.tries
+returns-in_err-lexer-clause-tries g c = rw (fault_is c.from_residual.result c.from_residual.ensures) c.in_err-lexer.ensures.attempt.tries
 
 pub returns-in_err-lexer-clause-kept : goal.returns-in_err-lexer-clause-kept
 returns-in_err-lexer-clause-kept g c =

@@ -15,19 +15,16 @@ returns-clause-word g c =
 pub returns-clause-reads : goal.returns-clause-reads
 returns-clause-reads g c =
     let next = c.in_ok-is_word.ensures in
-    rw (← c.self.view_is)
-    (reads_file (next.went (ap (λ (o : Open). o.lexer.has_failed) c.self.view_is ∙ c.requires.goes)) next.same.0.file)
+    rw (← c.self.view_is) (reads_file (next.went (ap (λ (o : Open). o.lexer.has_failed) c.self.view_is ∙ c.requires.goes)) next.same.0.file)
 
 pub returns-in_err-is_word-clause-reads : goal.returns-in_err-is_word-clause-reads
 returns-in_err-is_word-clause-reads g c =
     let next = c.in_err-is_word.ensures in
-    rw (← c.self.view_is)
-    (reads_file (reads_refused (fault_is c.from_residual.result c.from_residual.ensures)
+    rw (← c.self.view_is) (reads_file (reads_refused (fault_is c.from_residual.result c.from_residual.ensures)
     (next.went (ap (λ (o : Open). o.lexer.has_failed) c.self.view_is ∙ c.requires.goes))) next.same.0.file)
 
 pub returns-in_err-is_word-clause-took : goal.returns-in_err-is_word-clause-took
-returns-in_err-is_word-clause-took g c =
-    rw (fault_is c.from_residual.result c.from_residual.ensures) c.in_err-is_word.ensures.took
+returns-in_err-is_word-clause-took g c = rw (fault_is c.from_residual.result c.from_residual.ensures) c.in_err-is_word.ensures.took
 
 pub returns-in_err-is_word-clause-refused : goal.returns-in_err-is_word-clause-refused
 returns-in_err-is_word-clause-refused g c =

@@ -9,13 +9,10 @@ use Rattle.inf_sources.proofs.open_files.OpenFiles.set_characters.Goals as goal
 
 pub invariant_of-self : goal.invariant_of-self
 invariant_of-self c =
-    let inv = c.self.invariant in
-    let inside = c.self.inside in
-    let set = c.args.set in
+    let inv = c.self.invariant in let inside = c.self.inside in let set = c.args.set in
     let outer = with_items_is inside.outer c.set_all.new.files (c.set_all.auto.files ∙ c.as_mut_slice.ensures.len)
     ∙ (c.set_all.ensures ∙ ap (map (file_with set)) c.as_mut_slice.ensures.value) in
-    let names = c.set_characters.ensures in
-    let lexer = c.set_characters-2.ensures in
+    let names = c.set_characters.ensures in let lexer = c.set_characters-2.ensures in
     let Fits : Nest → Reader → List OpenFile → Type 0 = λ n r files. (n.open_files ≡ files_of (lexers_of files) ++ r.file ∷ [])
     × ((r.set ≡ n.set) × ((r.limit ≡ n.limit) × AllWait n.set n.limit (lexers_of files))) in
     subst (λ (n : Nest). Fits n c.set_characters-2.new.self (with_items inside.outer c.set_all.new.files).items) (sym names)
@@ -35,8 +32,7 @@ after c = record {
 
 after_is : (c : goal.After-self-1) → after c ≡ open_with c.args.set c.args.self.now
 after_is c =
-    let inside = c.self.inside in
-    let set = c.args.set in
+    let inside = c.self.inside in let set = c.args.set in
     let outer = with_items_is inside.outer c.set_all.new.files (c.set_all.auto.files ∙ c.as_mut_slice.ensures.len)
     ∙ (c.set_all.ensures ∙ ap (map (file_with set)) c.as_mut_slice.ensures.value) in
     let written = (with_items inside.outer c.set_all.new.files).items in
@@ -46,8 +42,7 @@ after_is c =
       nest = record inside.names { set = set };
       lexer = record inside.lexer { set = set };
       outer = fs;
-    }) outer
-    ∙ ap (λ (o : Open). open_with set o) c.self.view_is))
+    }) outer ∙ ap (λ (o : Open). open_with set o) c.self.view_is))
 
 pub returns-clause-nesting : goal.returns-clause-nesting
 returns-clause-nesting c = λ sources start now.

@@ -5,11 +5,8 @@ use Rattle.inf_unit.proofs.unit_tokens.UnitTokens.add.Goals as goal
 
 pub invariant_of-self-2 : goal.invariant_of-self-2
 invariant_of-self-2 c =
-    let t = c.args.token.now in
-    let ks = c.self.inside.kept.items in
-    let now = c.push_reserved.new.self.items in
-    let bytes = c.self.inside.bytes.items in
-    let new = c.add_bytes.new.bytes.items in
+    let t = c.args.token.now in let ks = c.self.inside.kept.items in let now = c.push_reserved.new.self.items in
+    let bytes = c.self.inside.bytes.items in let new = c.add_bytes.new.bytes.items in
     let added : IsAdded ks now bytes new t.bytes.now t.kind t.place t.is_class t.atom = record {
       k = c.new.result;
       end = c.len-end.result;
@@ -22,11 +19,8 @@ invariant_of-self-2 c =
 
 pub returns-clause-added : goal.returns-clause-added
 returns-clause-added c =
-    let t = c.args.token.now in
-    let ks = c.self.inside.kept.items in
-    let now = c.push_reserved.new.self.items in
-    let bytes = c.self.inside.bytes.items in
-    let new = c.add_bytes.new.bytes.items in
+    let t = c.args.token.now in let ks = c.self.inside.kept.items in let now = c.push_reserved.new.self.items in
+    let bytes = c.self.inside.bytes.items in let new = c.add_bytes.new.bytes.items in
     let added : IsAdded ks now bytes new t.bytes.now t.kind t.place t.is_class t.atom = record {
       k = c.new.result;
       end = c.len-end.result;

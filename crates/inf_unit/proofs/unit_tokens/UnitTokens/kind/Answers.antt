@@ -5,8 +5,7 @@ use Rattle.inf_unit.proofs.unit_tokens.UnitTokens.kind.Goals as goal
 
 pub returns-in-Some : goal.returns-in-Some
 returns-in-Some c =
-    let ks = c.self.inside.kept.items in
-    let k = c.in-Some.token.now in
+    let ks = c.self.inside.kept.items in let k = c.in-Some.token.now in
     let is : slice_get ks c.args.at ≡ Some k =
     ap (λ (l : List Kept). slice_get l c.args.at) (sym c.as_slice.ensures.value) ∙ c.in-Some.ensures in
     kind_got ks c.self.inside.bytes.items c.args.at k is ∙ ap (λ (ts : List SourceToken). kind_at ts c.args.at) c.self.view_is

@@ -17,8 +17,6 @@ returns-then-count-len c =
     ∙ ap (λ (ts : List SourceToken). take c.args.count ts) c.self.view_is
 
 pub returns-else-count-len : goal.returns-else-count-len
-returns-else-count-len c =
-    sym c.self.view_is
-    ∙ all_stay 0 c.self.inside.kept.items c.self.inside.bytes.items c.args.count
+returns-else-count-len c = sym c.self.view_is ∙ all_stay 0 c.self.inside.kept.items c.self.inside.bytes.items c.args.count
     (omega (arith, c.if-count-len.false, c.len.ensures, c.self.inside.kept.ok.0))
     ∙ ap (λ (ts : List SourceToken). take c.args.count ts) c.self.view_is
