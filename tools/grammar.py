@@ -450,7 +450,7 @@ class Tables:
     def actions_code(self):
         return ("//! The actions of the grammar. Made from docs/grammar.txt.\n\n"
                 + enum("Action", "An action of the grammar. Where it speaks of the last token, that is the one taken last.",
-                       [action(part) for part in self.actions]))
+                       [action(part) for part in self.actions], "Clone, Copy, Debug, PartialEq, Eq"))
 
 
 SLOTS = 256
@@ -528,10 +528,10 @@ def uses(module, names):
     return [f"use {module}.{{{line}}}" for line in packed(names, ", ", WIDE - len(module) - 7, "")]
 
 
-def enum(name, means, variants):
-    """A type of variants that have no fields."""
+def enum(name, means, variants, derives="Clone, Copy"):
+    """A type of variants that have no fields, and derives these traits."""
     lines = packed([variant + "," for variant in variants], " ")
-    return (f"/// {means}\n#[rattlefmt::skip]\n#[derive(Clone, Copy, Debug, PartialEq, Eq)]\npub enum {name} {{\n" + "\n".join(lines) + "\n}\n")
+    return (f"/// {means}\n#[rattlefmt::skip]\n#[derive({derives})]\npub enum {name} {{\n" + "\n".join(lines) + "\n}\n")
 
 
 def macro(name, letters, item):

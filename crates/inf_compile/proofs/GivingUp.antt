@@ -139,7 +139,7 @@ heard_from r failed s o name front was old now new f before after at alone named
     (λ told h. heard_front failed s o name front was old now new f before after told at alone named begun all nested given h) g
 
 -- reading that was given up for a cause was given up for a wider one
-given_up_more : (limits : Limits) (failed more : Type 0) (s : Sources) (o : Choices) (was : List ℕ → State) (old new : Option (List ℕ))
+pub given_up_more : (limits : Limits) (failed more : Type 0) (s : Sources) (o : Choices) (was : List ℕ → State) (old new : Option (List ℕ))
     (start now : Openings) (f : Open) (told : List ℕ) → (failed → more)
     → GivenUp limits failed s o was old new start now f told → GivenUp limits more s o was old new start now f told
 given_up_more limits failed more s o was old new start now f told later g = record {
@@ -148,15 +148,6 @@ given_up_more limits failed more s o was old new start now f told later g = reco
   goes_on = g.goes_on;
   stops = λ lines. stops_more limits failed more s o (run limits s o g.turns (was lines)) start now f told later (g.stops lines);
 }
-
-pub given_up_between : {T : Type 0} (limits : Limits) (r : Result T Fault) (failed more : Type 0) (s : Sources) (o : Choices)
-    (was : List ℕ → State) (old new : Option (List ℕ)) (start now : Openings) (f : Open)
-    → (failed → more) → IfErr r (λ x. IfRead x (λ told. GivenUp limits failed s o was old new start now f told)) → IfErr r
-    (λ x. IfRead x (λ told. GivenUp limits more s o was old new start now f told))
-given_up_between limits r failed more s o was old new start now f later g =
-    if_read_more r (λ told. GivenUp limits failed s o was old new start now f told)
-    (λ told. GivenUp limits more s o was old new start now f told)
-    (λ told h. given_up_more limits failed more s o was old new start now f told later h) g
 
 -- reading that was given up in the head, or behind it, for a cause was given up for a wider one
 given_up_from_more : (limits : Limits) (failed more : Type 0) (s : Sources) (o : Choices) (front : Nesting) (was : List ℕ → State)

@@ -6,3 +6,5 @@ pub mod GivingUp
 pub mod OutcomeLaws
 pub mod Examples
 pub mod Reaching
+pub mod Translating
+pub mod Promised

@@ -4,3 +4,6 @@ pub mod Outcome
 pub mod Comes
 pub mod OutcomeLaws
 pub mod Examples
+pub mod HeadsRead
+pub mod Translated
+pub mod Promised

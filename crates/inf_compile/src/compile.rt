@@ -1,13 +1,10 @@
-ghost use Rattle.std.specs.Prelude.{◌≡◌, codes, IsTrue, IfOk, IfErr, MatchResult, Ok, OnOk, OnErr, Some};
+ghost use Rattle.std.specs.Prelude.{◌≡◌, codes, IsTrue, IfOk, IfErr, OnOk, OnErr};
 ghost use Rattle.inf_devices.specs.{Files.Rose, Sinks.Takes};
 ghost use Rattle.inf_command.specs.FileNames.{source_name};
-ghost use Rattle.inf_compile.specs.Comes.{Begins, Heard, IsUnread, OpenedBy, OpenedPart, StopsEarly};
-ghost use Rattle.inf_compile.specs.Compiling.{Compiles, DeliversPart, HasCause, OnlyStory, TakesClean, TakesPart, TakesStory};
-ghost use Rattle.inf_compile.specs.Compiling.{IfMemory, chosen_by, named_by};
-ghost use Rattle.inf_ending.specs.{Delivered.TakesFront, Delivered.story_in, Ending.missing};
-ghost use Rattle.inf_ending.specs.Faults.{HidesNoFailure, IfRead, IfStory, TellsEachRead, UnlessStory};
-ghost use Rattle.inf_session.specs.Session.{start};
-ghost use Rattle.inf_settings.specs.Bounds.{limits_of};
+ghost use Rattle.inf_compile.specs.Comes.{Begins, OpenedBy};
+ghost use Rattle.inf_compile.specs.Compiling.{Compiles, DeliversPart, HasCause, IfMemory, OnlyStory, TakesPart, TakesStory};
+ghost use Rattle.inf_compile.specs.{Compiling.chosen_by, Compiling.named_by, Promised.GivesUp, Promised.LeavesDevices};
+ghost use Rattle.inf_ending.specs.{Delivered.TakesFront, Delivered.story_in, Ending.missing, Faults.HidesNoFailure, Faults.IfStory};
 
 use crate::translation::translate;
 use inf_command::command_line::{Options, source_name};
@@ -50,35 +47,17 @@ fn compile_named<F: Files, M: Sink, S: Sink>(
     ensures once { let name = source_name options.now.source in IsTrue (F.is_honest files.old) → OnOk result
         (OpenedBy (F.sources files.old name) (F.sources files.old) (chosen_by (F.sources files.old) options.now) name (F.openings files.old)
         (F.openings files.new)) }
-    ensures opened { IsTrue (F.is_honest files.old) → OnErr result
-        (OpenedPart (F.sources files.old) (chosen_by (F.sources files.old) options.now) (source_name options.now.source)
-        (F.openings files.old) (F.openings files.new)) }
     ensures begins { IsTrue (F.is_honest files.old) → OnErr result
         (Begins (F.sources files.old) (chosen_by (F.sources files.old) options.now) date (source_name options.now.source)
         (M.taken messages.old) (M.taken messages.new)) }
-    ensures early { let name = source_name options.now.source in let o = chosen_by (F.sources files.old) options.now in
-        IsTrue (F.is_honest files.old) → IfErr result (λ fault. IfMemory fault (StopsEarly (limits_of o.settings) (F.sources files.old) o
-        (start (F.sources files.old) o name) (M.taken messages.old) (M.taken messages.new))) }
-    ensures heard { let name = source_name options.now.source in
-        IsTrue (F.is_honest files.old) → IfErr result (λ fault. IfRead fault (λ told. Heard (Rose (F.faults files.old) (F.faults files.new))
-        (F.sources files.old) (chosen_by (F.sources files.old) options.now) name (F.openings files.old) (F.openings files.new)
-        (M.taken messages.old) (M.taken messages.new) told)) }
-    ensures depth { F.depth files.new ≡ F.depth files.old }
-    ensures seen { TellsEachRead result (F.faults files.old) (F.faults files.new) }
-    ensures errors { result ≡ Ok Status.Errors → S.taken story.new ≡ S.taken story.old }
-    ensures clean { MatchResult result
-        (λ status. status ≡ Status.Success → TakesClean date (λ bytes. Takes (S.taken story.old) (S.taken story.new) bytes)
-        (M.taken messages.old) (M.taken messages.new))
-        (λ fault. IfStory fault (λ n. TakesClean date (λ bytes. TakesPart (Some bytes) n (S.taken story.old) (S.taken story.new))
-        (M.taken messages.old) (M.taken messages.new))) }
-    ensures fault { IfErr result (λ fault. HasCause fault (λ name. IsUnread F.Files files.old files.new)
-        (Rose (M.failures messages.old) (M.failures messages.new)) (λ n. Rose (S.failures story.old) (S.failures story.new))) }
+    ensures given_up { IsTrue (F.is_honest files.old) → IfErr result (λ fault. GivesUp (Rose (F.faults files.old) (F.faults files.new))
+        (F.sources files.old) (chosen_by (F.sources files.old) options.now) (source_name options.now.source) (F.openings files.old)
+        (F.openings files.new) (M.taken messages.old) (M.taken messages.new) fault) }
     ensures part { IsTrue (F.is_honest files.old) → IfErr result (λ fault. IfStory fault (λ n.
         DeliversPart (F.sources files.old) (chosen_by (F.sources files.old) options.now) date (source_name options.now.source) n
         (M.taken messages.old) (M.taken messages.new) (S.taken story.old) (S.taken story.new))) }
-    ensures untouched { IfErr result (λ fault.
-        UnlessStory fault ((S.taken story.new ≡ S.taken story.old) × (S.failures story.new ≡ S.failures story.old))) }
-    ensures quiet { HidesNoFailure result (M.failures messages.old) (M.failures messages.new) }
+    ensures depth { F.depth files.new ≡ F.depth files.old }
+    ensures leaves { LeavesDevices F.Files M.Sink S.Sink files.old files.new messages.old messages.new story.old story.new date result }
 {
     let name = source_name(alloc, options)?;
     let compiled = translate(
@@ -142,53 +121,29 @@ pub fn compile<F: Files, M: Sink, S: Sink>(
         (OpenedBy (named_by options.now.source (F.sources files.old) name) (named_by options.now.source (F.sources files.old))
         (chosen_by (F.sources files.old) options.now) name (F.openings files.old) (F.openings files.new)) }
 
-    // Where a fault is returned, the openings are those of the reading up to some turn.
-    ensures opened { IsTrue (F.is_honest files.old) → OnErr result
-        (OpenedPart (named_by options.now.source (F.sources files.old)) (chosen_by (F.sources files.old) options.now)
-        (source_name options.now.source) (F.openings files.old) (F.openings files.new)) }
-
     // Where a fault is returned, a front of the outcome's messages was written.
     ensures begins { IsTrue (F.is_honest files.old) → OnErr result
         (Begins (named_by options.now.source (F.sources files.old)) (chosen_by (F.sources files.old) options.now) date
         (source_name options.now.source) (M.taken messages.old) (M.taken messages.new)) }
 
-    // Where memory lacks, none of the last messages was written, of which the closing line is one.
-    ensures early { let name = source_name options.now.source in let s = named_by options.now.source (F.sources files.old) in
-        let o = chosen_by (F.sources files.old) options.now in
-        IsTrue (F.is_honest files.old) → IfErr result (λ fault. IfMemory fault (StopsEarly (limits_of o.settings) s o (start s o name)
-        (M.taken messages.old) (M.taken messages.new))) }
+    // The openings are then those of the reading up to some turn. Where memory lacks, none of the last messages was written, of which the
+    // closing line is one. The messages before a fault of reading are all that come with the tokens that were read, of some number of turns
+    // from the start, and behind them there is a cause: the device failed, the innermost file is too long, or its inclusion names one file
+    // too many. In the head of the source nothing was written before it.
+    ensures given_up { IsTrue (F.is_honest files.old) → IfErr result (λ fault. GivesUp (Rose (F.faults files.old) (F.faults files.new))
+        (named_by options.now.source (F.sources files.old)) (chosen_by (F.sources files.old) options.now) (source_name options.now.source)
+        (F.openings files.old) (F.openings files.new) (M.taken messages.old) (M.taken messages.new) fault) }
 
-    // After a fault of reading it is all that comes with the tokens that were read, of some number of turns from the start, and behind them
-    // there is a cause: the device failed, the innermost file is too long, or its inclusion names one file too many. In the head of the
-    // source nothing was written before it.
-    ensures heard { let name = source_name options.now.source in
-        IsTrue (F.is_honest files.old) → IfErr result (λ fault. IfRead fault (λ told. Heard (Rose (F.faults files.old) (F.faults files.new))
-        (named_by options.now.source (F.sources files.old)) (chosen_by (F.sources files.old) options.now) name
-        (F.openings files.old) (F.openings files.new) (M.taken messages.old) (M.taken messages.new) told)) }
-
-    // With any reader nothing is left open, and no story comes with an error. Where a story came, whole or in part, it is that of some work
-    // of which no error and no fatal error was counted, and the messages that were written end with the last ones of this work.
-    ensures depth { F.depth files.new ≡ F.depth files.old }
-    ensures errors { result ≡ Ok Status.Errors → S.taken story.new ≡ S.taken story.old }
-    ensures clean { MatchResult result
-        (λ status. status ≡ Status.Success → TakesClean date (λ bytes. Takes (S.taken story.old) (S.taken story.new) bytes)
-        (M.taken messages.old) (M.taken messages.new))
-        (λ fault. IfStory fault (λ n. TakesClean date (λ bytes. TakesPart (Some bytes) n (S.taken story.old) (S.taken story.new))
-        (M.taken messages.old) (M.taken messages.new))) }
-
-    // With any reader a fault has its cause, and a failure to open or to read a source is told.
-    ensures seen { TellsEachRead result (F.faults files.old) (F.faults files.new) }
-    ensures fault { IfErr result (λ fault. HasCause fault (λ name. IsUnread F.Files files.old files.new)
-        (Rose (M.failures messages.old) (M.failures messages.new)) (λ n. Rose (S.failures story.old) (S.failures story.new))) }
-
-    // Before a fault of the story's sink, the messages of the outcome were written, and a front of its story; before
-    // another fault that sink took nothing and did not fail. Nor did that of the messages where another fault, or none, is told.
+    // Before a fault of the story's sink, the messages of the outcome were written, and a front of its story.
     ensures part { IsTrue (F.is_honest files.old) → IfErr result (λ fault. IfStory fault (λ n.
         DeliversPart (named_by options.now.source (F.sources files.old)) (chosen_by (F.sources files.old) options.now) date
         (source_name options.now.source) n (M.taken messages.old) (M.taken messages.new) (S.taken story.old) (S.taken story.new))) }
-    ensures untouched { IfErr result (λ fault.
-        UnlessStory fault ((S.taken story.new ≡ S.taken story.old) × (S.failures story.new ≡ S.failures story.old))) }
-    ensures quiet { HidesNoFailure result (M.failures messages.old) (M.failures messages.new) }
+
+    // With any reader nothing is left open, no story comes with an error, and a fault has its cause. Where a story came, whole or in part, it
+    // is that of some work of which no error and no fatal error was counted, and the messages that were written end with the last ones of
+    // this work.
+    ensures depth { F.depth files.new ≡ F.depth files.old }
+    ensures leaves { LeavesDevices F.Files M.Sink S.Sink files.old files.new messages.old messages.new story.old story.new date result }
 {
     if options.names_nothing() {
         return refuse(alloc, messages);

@@ -20,8 +20,7 @@ pub fn sources_have_these_outcomes()
     ensures text_is_missing { TextIsMissing }
     ensures names_are_undeclared { NamesAreUndeclared }
     ensures files_are_included { FilesAreIncluded }
-    ensures conditionals_choose { ConditionalsChoose }
-    ensures conditions_choose { ConditionsChoose }
+    ensures conditionals_choose { ConditionalsChoose × ConditionsChoose }
     ensures sixteen_are_open { SixteenAreOpen }
     ensures hello_is_a_story { HelloIsAStory }
 {}

@@ -1,17 +1,18 @@
 //! The compilation of a main source with the files that it includes.
-ghost use Rattle.std.specs.Prelude.{◌≡◌, ℕ, ◌<◌, [], None, false, IsTrue, IfOk, IfErr, OnErr, OnOk, length};
+ghost use Rattle.std.specs.Prelude.{◌≡◌, ◌<◌, [], None, false, IsTrue, IfOk, IfErr, OnErr, OnOk, length};
 ghost use Rattle.inf_devices.specs.Files.{Rose};
-ghost use Rattle.inf_sources.specs.Calls.{Honestly, IsUnreadable, Kept, StaysFit, Went};
-ghost use Rattle.inf_sources.specs.Open.{nesting, opened_since};
-ghost use Rattle.inf_session.specs.{Choices.chosen, Choices.most_quoted, Leading.GivenUp, Leading.OpensAll, Session.first_state};
-ghost use Rattle.inf_session.specs.{Promises.Supplies, Promises.fault_in, Session.run, Session.start, Standing.IsSet, Standing.state};
+ghost use Rattle.inf_sources.specs.Calls.{Honestly, Kept};
+ghost use Rattle.inf_sources.specs.Open.{nesting};
+ghost use Rattle.inf_session.specs.{Choices.chosen, Choices.most_quoted, Leading.GivenUp, Session.first_state};
+ghost use Rattle.inf_session.specs.{Promises.Supplies, Promises.fault_in, Standing.IsSet, Standing.state};
 ghost use Rattle.inf_session.specs.Veneer.{supplied};
 ghost use Rattle.inf_ending.specs.Delivered.{SucceedsClean};
-ghost use Rattle.inf_ending.specs.Faults.{Caused, HidesNoFailure, IfRead, TellsEachRead};
+ghost use Rattle.inf_ending.specs.Faults.{Caused, HidesNoFailure};
 ghost use Rattle.inf_settings.specs.Bounds.{limits_of};
 ghost use Rattle.inf_compile.specs.Chosen.{begun_at, chosen_at, chosen_for};
-ghost use Rattle.inf_compile.specs.Comes.{Begins, BreaksOffAll, Comes, Concludes, EndsAll, GivenUpFrom, Heard, IsUnread, OpenedPart, Stops};
-ghost use Rattle.inf_compile.specs.{Comes.StopsEarly, Comes.SuppliesAll, Comes.SuppliesPart, Compiling.IfMemory};
+ghost use Rattle.inf_compile.specs.Comes.{Begins, BreaksOffAll, Comes, EndsAll, GivenUpFrom, SuppliesAll, SuppliesPart};
+ghost use Rattle.inf_compile.specs.{Compiling.IfMemory, Promised.GivesUp, Promised.LeavesMessages};
+ghost use Rattle.inf_compile.specs.Translated.{Leaves, Translated};
 
 use crate::heads::read_head;
 use inf_command::command_line::Options;
@@ -52,29 +53,16 @@ pub fn translate<F: Files, M: Sink>(
         (F.openings files.old) (F.openings files.new) (M.taken messages.old) (M.taken messages.new) compiled) }
     ensures begins { IsTrue (F.is_honest files.old) → OnErr result (Begins (F.sources files.old)
         (chosen_for (F.sources files.old) name.now options.now) serial.now name.now (M.taken messages.old) (M.taken messages.new)) }
-    // At want of memory none of the last messages was written, of which the closing line is one.
-    ensures early { let o = chosen_for (F.sources files.old) name.now options.now in
-        IsTrue (F.is_honest files.old) → IfErr result (λ fault. IfMemory fault (StopsEarly (limits_of o.settings) (F.sources files.old) o
-        (start (F.sources files.old) o name.now) (M.taken messages.old) (M.taken messages.new))) }
-    // At any fault the openings are those of a part of the reading.
-    ensures opened { IsTrue (F.is_honest files.old) → OnErr result (OpenedPart (F.sources files.old)
-        (chosen_for (F.sources files.old) name.now options.now) name.now (F.openings files.old) (F.openings files.new)) }
-    // After a fault of reading all messages were written that come with the tokens read so far, and the fault has its
-    // cause. In the head of the main source there are none.
-    ensures heard { IsTrue (F.is_honest files.old) →
-        IfErr result (λ fault. IfRead fault (λ told. Heard (Rose (F.faults files.old) (F.faults files.new))
-        (F.sources files.old) (chosen_for (F.sources files.old) name.now options.now) name.now (F.openings files.old) (F.openings files.new)
-        (M.taken messages.old) (M.taken messages.new) told)) }
+    // After a fault, the openings are those of a part of the reading, and the fault has its cause. At want of memory none of the last
+    // messages was written; after a fault of reading all messages were written that come with the tokens read so far.
+    ensures given_up { let o = chosen_for (F.sources files.old) name.now options.now in IsTrue (F.is_honest files.old) →
+        IfErr result (λ fault. GivesUp (Rose (F.faults files.old) (F.faults files.new)) (F.sources files.old) o name.now
+        (F.openings files.old) (F.openings files.new) (M.taken messages.old) (M.taken messages.new) fault) }
 
     // With any reader nothing is left open, no story comes with an error, and a fault has its cause.
     ensures kept { Kept F.Files files.old files.new }
-    ensures seen { TellsEachRead result (F.faults files.old) (F.faults files.new) }
     ensures depth { F.depth files.new ≡ F.depth files.old }
-    ensures errors { IfOk result (λ compiled. compiled.status ≡ Status.Errors → compiled.story ≡ None) }
-    ensures clean { IfOk result (λ compiled. SucceedsClean serial.now compiled (M.taken messages.old) (M.taken messages.new)) }
-    ensures fault { IfErr result (λ fault. Caused fault (λ name. IsUnread F.Files files.old files.new)
-        (Rose (M.failures messages.old) (M.failures messages.new))) }
-    ensures quiet { HidesNoFailure result (M.failures messages.old) (M.failures messages.new) }
+    ensures leaves { LeavesMessages F.Files M.Sink files.old files.new messages.old messages.new serial.now result }
 {
     let told = String::from_str(alloc, name)?;
     let limit = options.settings().of(Setting::QuotedText);
@@ -107,35 +95,13 @@ fn translate_opened<F: Files, M: Sink>(
     requires is_open { length open_files.outer < F.depth files.old }
     requires alone { open_files.outer ≡ [] }
     requires goes { open_files.lexer.has_failed ≡ false }
-    ensures concludes { Honestly F.Files files.old open_files (λ start. IfOk result.1 (λ compiled.
-        let was = nesting (F.sources files.old) start (F.openings files.old) open_files in
-        Concludes (limits_of (chosen_at was options.now).settings) (F.sources files.old) (chosen_at was options.now) serial.now
-        (begun_at was options.now []) start (F.openings files.new) result.0 (M.taken messages.old) (M.taken messages.new) compiled)) }
-    ensures stops { Honestly F.Files files.old open_files (λ start. OnErr result.1 (
-        let was = nesting (F.sources files.old) start (F.openings files.old) open_files in
-        Stops (limits_of (chosen_at was options.now).settings) (F.sources files.old) (chosen_at was options.now) serial.now
-        (begun_at was options.now []) (M.taken messages.old) (M.taken messages.new))) }
-    ensures early { Honestly F.Files files.old open_files (λ start. IfErr result.1 (λ fault. IfMemory fault (
-        let was = nesting (F.sources files.old) start (F.openings files.old) open_files in
-        StopsEarly (limits_of (chosen_at was options.now).settings) (F.sources files.old) (chosen_at was options.now)
-        (begun_at was options.now []) (M.taken messages.old) (M.taken messages.new)))) }
-    ensures heard { Honestly F.Files files.old open_files (λ start. IfErr result.1 (λ fault. IfRead fault (λ name.
-        let was = nesting (F.sources files.old) start (F.openings files.old) open_files in
-        GivenUpFrom (limits_of (chosen_at was options.now).settings) (Rose (F.faults files.old) (F.faults files.new)) (F.sources files.old)
-        (chosen_at was options.now) was (begun_at was options.now) (M.taken messages.old) (M.taken messages.new)
-        start (F.openings files.new) result.0 name))) }
-    ensures opened { Honestly F.Files files.old open_files (λ start. OnErr result.1 (
-        let was = nesting (F.sources files.old) start (F.openings files.old) open_files in (turns : ℕ) × OpensAll
-        (run (limits_of (chosen_at was options.now).settings) (F.sources files.old) (chosen_at was options.now) turns)
-        (begun_at was options.now) (opened_since start (F.openings files.new)))) }
-    ensures fits { IfOk result.1 (λ compiled. StaysFit F.Files files.old files.new open_files) }
-    ensures went { Went F.Files files.old files.new open_files result.0 }
-    ensures seen { TellsEachRead result.1 (F.faults files.old) (F.faults files.new) }
-    ensures errors { IfOk result.1 (λ compiled. compiled.status ≡ Status.Errors → compiled.story ≡ None) }
-    ensures clean { IfOk result.1 (λ compiled. SucceedsClean serial.now compiled (M.taken messages.old) (M.taken messages.new)) }
-    ensures fault { IfErr result.1 (λ fault. Caused fault (λ name. IsUnreadable F.Files files.old files.new open_files result.0)
-        (Rose (M.failures messages.old) (M.failures messages.new))) }
-    ensures quiet { HidesNoFailure result.1 (M.failures messages.old) (M.failures messages.new) }
+    ensures translated { Honestly F.Files files.old open_files (λ start.
+        let was = nesting (F.sources files.old) start (F.openings files.old) open_files in let o = chosen_at was options.now in
+        Translated (limits_of o.settings) (F.sources files.old) o serial.now (begun_at was options.now) start (F.openings files.new) result.0
+        (M.taken messages.old) (M.taken messages.new) (GivenUpFrom (limits_of o.settings) (Rose (F.faults files.old) (F.faults files.new))
+        (F.sources files.old) o was (begun_at was options.now) (M.taken messages.old) (M.taken messages.new) start (F.openings files.new)
+        result.0) result.1) }
+    ensures leaves { Leaves F.Files M.Sink files.old files.new open_files result.0 messages.old messages.new serial.now result.1 }
     ensures is_open { length result.0.outer < F.depth files.new }
 {
     let Ok(told) = String::from_str(alloc, open_files.innermost()) else {
@@ -174,35 +140,12 @@ fn translate_under<F: Files, M: Sink, B: Bounds>(
     requires is_open { length open_files.outer < F.depth files.old }
     requires goes { open_files.lexer.has_failed ≡ false }
     requires set { open_files.nest.limit ≡ most_quoted (chosen setup) }
-    ensures concludes { Honestly F.Files files.old open_files (λ start. IfOk result.1 (λ compiled.
-        Concludes (limits_of setup.entry.settings.now) (F.sources files.old) (chosen setup.entry) serial.now
-        (first_state (chosen setup.entry) (nesting (F.sources files.old) start (F.openings files.old) open_files) [])
-        start (F.openings files.new) result.0 (M.taken messages.old) (M.taken messages.new) compiled)) }
-    ensures stops { Honestly F.Files files.old open_files (λ start.
-        OnErr result.1 (Stops (limits_of setup.entry.settings.now) (F.sources files.old) (chosen setup.entry) serial.now
-        (first_state (chosen setup.entry) (nesting (F.sources files.old) start (F.openings files.old) open_files) [])
-        (M.taken messages.old) (M.taken messages.new))) }
-    ensures early { Honestly F.Files files.old open_files (λ start. IfErr result.1 (λ fault. IfMemory fault (
-        StopsEarly (limits_of setup.entry.settings.now) (F.sources files.old) (chosen setup.entry)
-        (first_state (chosen setup.entry) (nesting (F.sources files.old) start (F.openings files.old) open_files) [])
-        (M.taken messages.old) (M.taken messages.new)))) }
-    ensures heard { Honestly F.Files files.old open_files (λ start.
-        IfErr result.1 (λ fault. IfRead fault (λ name. GivenUp (limits_of setup.entry.settings.now)
-        (Rose (F.faults files.old) (F.faults files.new)) (F.sources files.old) (chosen setup.entry)
-        (first_state (chosen setup.entry) (nesting (F.sources files.old) start (F.openings files.old) open_files))
-        (M.taken messages.old) (M.taken messages.new) start (F.openings files.new) result.0 name))) }
-    ensures opened { Honestly F.Files files.old open_files (λ start. OnErr result.1 ((turns : ℕ) ×
-        OpensAll (run (limits_of setup.entry.settings.now) (F.sources files.old) (chosen setup.entry) turns)
-        (first_state (chosen setup.entry) (nesting (F.sources files.old) start (F.openings files.old) open_files))
-        (opened_since start (F.openings files.new)))) }
-    ensures fits { IfOk result.1 (λ compiled. StaysFit F.Files files.old files.new open_files) }
-    ensures went { Went F.Files files.old files.new open_files result.0 }
-    ensures seen { TellsEachRead result.1 (F.faults files.old) (F.faults files.new) }
-    ensures errors { IfOk result.1 (λ compiled. compiled.status ≡ Status.Errors → compiled.story ≡ None) }
-    ensures clean { IfOk result.1 (λ compiled. SucceedsClean serial.now compiled (M.taken messages.old) (M.taken messages.new)) }
-    ensures fault { IfErr result.1 (λ fault. Caused fault (λ name. IsUnreadable F.Files files.old files.new open_files result.0)
-        (Rose (M.failures messages.old) (M.failures messages.new))) }
-    ensures quiet { HidesNoFailure result.1 (M.failures messages.old) (M.failures messages.new) }
+    ensures translated { Honestly F.Files files.old open_files (λ start. let limits = limits_of setup.entry.settings.now in
+        let was = first_state (chosen setup.entry) (nesting (F.sources files.old) start (F.openings files.old) open_files) in
+        Translated limits (F.sources files.old) (chosen setup.entry) serial.now was start (F.openings files.new) result.0
+        (M.taken messages.old) (M.taken messages.new) (GivenUp limits (Rose (F.faults files.old) (F.faults files.new)) (F.sources files.old)
+        (chosen setup.entry) was (M.taken messages.old) (M.taken messages.new) start (F.openings files.new) result.0) result.1) }
+    ensures leaves { Leaves F.Files M.Sink files.old files.new open_files result.0 messages.old messages.new serial.now result.1 }
     ensures is_open { length result.0.outer < F.depth files.new }
 {
     match Session::<B>::new(alloc, setup, open_files) {
@@ -221,32 +164,13 @@ fn read_out<F: Files, M: Sink, B: Bounds>(
     requires is_open { length session.open_files.outer < F.depth files.old }
     requires goes { session.open_files.lexer.has_failed ≡ false }
     requires set { IsSet session }
-    ensures concludes { Honestly F.Files files.old session.entry.open_files (λ start. IfOk result.1 (λ compiled.
-        Concludes B.most (F.sources files.old) (chosen session.entry.setup) serial.now
-        (state (F.sources files.old) start (F.openings files.old) session.entry [])
-        start (F.openings files.new) result.0 (M.taken messages.old) (M.taken messages.new) compiled)) }
-    ensures stops { Honestly F.Files files.old session.entry.open_files (λ start.
-        OnErr result.1 (Stops B.most (F.sources files.old) (chosen session.entry.setup) serial.now
-        (state (F.sources files.old) start (F.openings files.old) session.entry []) (M.taken messages.old) (M.taken messages.new))) }
-    ensures early { Honestly F.Files files.old session.entry.open_files (λ start.
-        IfErr result.1 (λ fault. IfMemory fault (StopsEarly B.most (F.sources files.old) (chosen session.entry.setup)
-        (state (F.sources files.old) start (F.openings files.old) session.entry []) (M.taken messages.old) (M.taken messages.new)))) }
-    ensures heard { Honestly F.Files files.old session.entry.open_files (λ start.
-        IfErr result.1 (λ fault. IfRead fault (λ name. GivenUp B.most (Rose (F.faults files.old) (F.faults files.new)) (F.sources files.old)
-        (chosen session.entry.setup)
-        (state (F.sources files.old) start (F.openings files.old) session.entry) (M.taken messages.old) (M.taken messages.new)
-        start (F.openings files.new) result.0 name))) }
-    ensures opened { Honestly F.Files files.old session.entry.open_files (λ start.
-        OnErr result.1 ((turns : ℕ) × OpensAll (run B.most (F.sources files.old) (chosen session.entry.setup) turns)
-        (state (F.sources files.old) start (F.openings files.old) session.entry) (opened_since start (F.openings files.new)))) }
-    ensures fits { IfOk result.1 (λ compiled. StaysFit F.Files files.old files.new session.entry.open_files) }
-    ensures went { Went F.Files files.old files.new session.entry.open_files result.0 }
-    ensures seen { TellsEachRead result.1 (F.faults files.old) (F.faults files.new) }
-    ensures errors { IfOk result.1 (λ compiled. compiled.status ≡ Status.Errors → compiled.story ≡ None) }
-    ensures clean { IfOk result.1 (λ compiled. SucceedsClean serial.now compiled (M.taken messages.old) (M.taken messages.new)) }
-    ensures fault { IfErr result.1 (λ fault. Caused fault (λ name. IsUnreadable F.Files files.old files.new session.entry.open_files
-        result.0) (Rose (M.failures messages.old) (M.failures messages.new))) }
-    ensures quiet { HidesNoFailure result.1 (M.failures messages.old) (M.failures messages.new) }
+    ensures translated { Honestly F.Files files.old session.entry.open_files (λ start. let o = chosen session.entry.setup in
+        let was = state (F.sources files.old) start (F.openings files.old) session.entry in
+        Translated B.most (F.sources files.old) o serial.now was start (F.openings files.new) result.0 (M.taken messages.old)
+        (M.taken messages.new) (GivenUp B.most (Rose (F.faults files.old) (F.faults files.new)) (F.sources files.old) o was
+        (M.taken messages.old) (M.taken messages.new) start (F.openings files.new) result.0) result.1) }
+    ensures leaves { Leaves F.Files M.Sink files.old files.new session.entry.open_files result.0 messages.old messages.new serial.now
+        result.1 }
     ensures is_open { length result.0.outer < F.depth files.new }
 {
     match session.read(files, messages) {

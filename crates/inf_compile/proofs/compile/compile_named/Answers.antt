@@ -1,15 +1,14 @@
-use Rattle.std.proofs.Common.{rules, ◌≡◌, ℕ, List, IfErr, refl, ap, subst, ◌∙◌}
+use Rattle.std.proofs.Common.{rules, ◌≡◌, ℕ, List, IfErr, refl, ap, inl, subst, ◌∙◌}
+use Rattle.inf_devices.specs.Files.{Rose}
 use Rattle.inf_command.specs.FileNames.{source_name}
-use Rattle.inf_session.specs.Session.{start}
-use Rattle.inf_settings.specs.Bounds.{limits_of}
-use Rattle.inf_compile.specs.Comes.{StopsEarly}
-use Rattle.inf_compile.proofs.Concluding.{early_none, if_memory_any, if_memory_more}
+use Rattle.inf_compile.specs.{Chosen.chosen_for, Comes.IsUnread, Compiling.chosen_by, Promised.GivesUp}
+use Rattle.inf_compile.proofs.Concluding.{early_none, if_memory_any}
 use Rattle.inf_opcode.proofs.Growing.{on_err}
-use Rattle.inf_compile.specs.{Chosen.chosen_for, Compiling.IfMemory, Compiling.chosen_by}
 use Rattle.inf_compile.proofs.Delivering.{begins_whole, clean_where_delivered, never_story, opened_whole}
-use Rattle.inf_ending.specs.Faults.{UnlessMessages, UnlessRead}
-use Rattle.inf_ending.proofs.Quiet.{hides_always, hides_behind, hides_none}
-use Rattle.inf_compile.proofs.Telling.{tells_behind, tells_none}
+use Rattle.inf_compile.proofs.Promised.{gives_up, if_story_alone, if_story_caused, never_read, refused_leaves, untold_with_errors}
+use Rattle.inf_compile.proofs.Telling.{tells_none}
+use Rattle.inf_ending.specs.{Faults.Caused, Faults.UnlessMessages, Faults.UnlessRead, declared.faults.Fault.Fault}
+use Rattle.inf_ending.proofs.Quiet.{hides_always}
 use Rattle.inf_compile.proofs.compile.compile_named.Goals as goal
 
 pub returns-clause-begins : goal.returns-clause-begins
@@ -21,67 +20,65 @@ returns-clause-begins g c = λ honest.
     (g.M.Sink.taken c.args.messages.now) (g.M.Sink.taken c.translate.new.messages) c.in_ok-compiled.compiled
     (ap (λ (name : List ℕ). chosen_for s name options) named) named (c.in_ok-compiled.ensures.comes honest))
 
-pub returns-clause-opened : goal.returns-clause-opened
-returns-clause-opened g c = λ honest.
+pub returns-clause-given_up : goal.returns-clause-given_up
+returns-clause-given_up g c = λ honest.
     let files = g.F.Files in let s = files.sources c.args.files.now in let options = c.args.options.now in
     let named = c.as_str.ensures.value ∙ c.in_ok-name.ensures.bytes in
-    on_err c.deliver.result (opened_whole s _ (chosen_by s options) c.args.date _ _ (files.openings c.args.files.now)
-    (files.openings c.translate.new.files)
-    (g.M.Sink.taken c.args.messages.now) (g.M.Sink.taken c.translate.new.messages) c.in_ok-compiled.compiled
-    (ap (λ (name : List ℕ). chosen_for s name options) named) named (c.in_ok-compiled.ensures.comes honest))
+    gives_up _ _ _ _ _ _ _ _ c.deliver.result (on_err c.deliver.result (opened_whole s _ (chosen_by s options) c.args.date _ _
+    (files.openings c.args.files.now) (files.openings c.translate.new.files) (g.M.Sink.taken c.args.messages.now)
+    (g.M.Sink.taken c.translate.new.messages) c.in_ok-compiled.compiled (ap (λ (name : List ℕ). chosen_for s name options) named) named
+    (c.in_ok-compiled.ensures.comes honest))) (never_story c.deliver.result _ _ c.deliver.ensures.story)
+    (never_read c.deliver.result _ _ c.deliver.ensures.story)
 
-pub returns-clause-clean : goal.returns-clause-clean
-returns-clause-clean g c =
-    clean_where_delivered c.args.date _ c.deliver.result c.in_ok-compiled.compiled (g.M.Sink.taken c.args.messages.now)
-    (g.M.Sink.taken c.translate.new.messages) (g.S.Sink.taken c.args.story.now) (g.S.Sink.taken c.deliver.new.story)
-    c.deliver.ensures.status c.deliver.ensures.ok c.deliver.ensures.story c.in_ok-compiled.ensures.errors c.in_ok-compiled.ensures.clean
+pub returns-in_err-name-clause-given_up : goal.returns-in_err-name-clause-given_up
+returns-in_err-name-clause-given_up g c = λ honest.
+    gives_up _ _ _ _ _ _ _ _ c.from_residual.result (on_err c.from_residual.result (inl refl))
+    (if_memory_any c.from_residual.result _ (early_none _ _ _ _ _)) (search rules)
 
-pub returns-in_err-name-clause-quiet : goal.returns-in_err-name-clause-quiet
-returns-in_err-name-clause-quiet g c = hides_none c.from_residual.result (g.M.Sink.failures c.args.messages.now)
-
-pub returns-in_err-compiled-clause-quiet : goal.returns-in_err-compiled-clause-quiet
-returns-in_err-compiled-clause-quiet g c =
-    let first = g.M.Sink.failures c.args.messages.now in let now = g.M.Sink.failures c.translate.new.messages in
-    let told : IfErr c.translate.result (λ fault. UnlessMessages fault (now ≡ first)) = c.translate.ensures.quiet.1 in
-    let passed : IfErr c.from_residual-in_err-compiled.result (λ fault. UnlessMessages fault (now ≡ first)) = search rules in
-    hides_behind c.from_residual-in_err-compiled.result first first now c.from_residual-in_err-compiled.ensures.0 refl passed
-
-pub returns-clause-quiet : goal.returns-clause-quiet
-returns-clause-quiet g c =
-    hides_always c.deliver.result (g.M.Sink.failures c.args.messages.now) (g.M.Sink.failures c.translate.new.messages)
-    c.in_ok-compiled.ensures.quiet.0
-
-pub returns-in_err-name-clause-seen : goal.returns-in_err-name-clause-seen
-returns-in_err-name-clause-seen g c =
-    let faults = g.F.Files.faults c.args.files.now in tells_none c.from_residual.result faults faults refl
-
-pub returns-in_err-compiled-clause-seen : goal.returns-in_err-compiled-clause-seen
-returns-in_err-compiled-clause-seen g c =
-    let first = g.F.Files.faults c.args.files.now in let now = g.F.Files.faults c.translate.new.files in
-    let told : IfErr c.translate.result (λ fault. UnlessRead fault (now ≡ first)) = c.translate.ensures.seen.1 in
-    let passed : IfErr c.from_residual-in_err-compiled.result (λ fault. UnlessRead fault (now ≡ first)) = search rules in
-    tells_behind c.from_residual-in_err-compiled.result first first now c.from_residual-in_err-compiled.ensures.0 refl passed
-
-pub returns-clause-seen : goal.returns-clause-seen
-returns-clause-seen g c = tells_none c.deliver.result (g.F.Files.faults c.args.files.now) (g.F.Files.faults c.translate.new.files)
-    c.in_ok-compiled.ensures.seen.0
-
--- want of memory
-
-pub returns-in_err-name-clause-early : goal.returns-in_err-name-clause-early
-returns-in_err-name-clause-early g c = λ honest. if_memory_any c.from_residual.result _ (early_none _ _ _ _ _)
-
-pub returns-in_err-compiled-clause-early : goal.returns-in_err-compiled-clause-early
-returns-in_err-compiled-clause-early g c = λ honest.
-    let s = g.F.Files.sources c.args.files.now in let options = c.args.options.now in
-    let before = g.M.Sink.taken c.args.messages.now in let after = g.M.Sink.taken c.translate.new.messages in
+pub returns-in_err-compiled-clause-given_up : goal.returns-in_err-compiled-clause-given_up
+returns-in_err-compiled-clause-given_up g c = λ honest.
+    let files = g.F.Files in let s = files.sources c.args.files.now in let options = c.args.options.now in
     let named = c.as_str.ensures.value ∙ c.in_ok-name.ensures.bytes in
-    let At : List ℕ → Type 0 = λ name. StopsEarly (limits_of (chosen_for s name options).settings) s (chosen_for s name options)
-    (start s (chosen_for s name options) name) before after in
-    let told : IfErr c.translate.result (λ fault. IfMemory fault (At c.as_str.result.now)) = c.translate.ensures.early honest in
-    let passed : IfErr c.from_residual-in_err-compiled.result (λ fault. IfMemory fault (At c.as_str.result.now)) = search rules in
-    if_memory_more c.from_residual-in_err-compiled.result (At c.as_str.result.now) (At (source_name options.source))
-    (λ early. subst At named early) passed
+    let At : List ℕ → Fault → Type 0 = λ name fault. GivesUp (Rose (files.faults c.args.files.now) (files.faults c.translate.new.files)) s
+    (chosen_for s name options) name (files.openings c.args.files.now) (files.openings c.translate.new.files)
+    (g.M.Sink.taken c.args.messages.now) (g.M.Sink.taken c.translate.new.messages) fault in
+    let told : IfErr c.translate.result (λ fault. At (source_name options.source) fault) =
+    subst (λ name. IfErr c.translate.result (λ fault. At name fault)) named (c.translate.ensures.given_up honest) in
+    let passed : IfErr c.from_residual-in_err-compiled.result (λ fault. At (source_name options.source) fault) = search rules in
+    passed
 
-pub returns-clause-early : goal.returns-clause-early
-returns-clause-early g c = λ honest. never_story c.deliver.result _ _ c.deliver.ensures.story
+pub returns-clause-leaves : goal.returns-clause-leaves
+returns-clause-leaves g c =
+    let left = c.in_ok-compiled.ensures.leaves in let deliver = c.deliver.ensures in
+    record {
+      errors = untold_with_errors c.deliver.result c.in_ok-compiled.compiled deliver.status deliver.ok left.errors;
+      clean = clean_where_delivered c.args.date _ c.deliver.result c.in_ok-compiled.compiled (g.M.Sink.taken c.args.messages.now)
+          (g.M.Sink.taken c.translate.new.messages) (g.S.Sink.taken c.args.story.now) (g.S.Sink.taken c.deliver.new.story)
+          deliver.status deliver.ok deliver.story left.errors left.clean;
+      seen = tells_none c.deliver.result (g.F.Files.faults c.args.files.now) (g.F.Files.faults c.translate.new.files) left.seen.0;
+      quiet = hides_always c.deliver.result (g.M.Sink.failures c.args.messages.now) (g.M.Sink.failures c.translate.new.messages)
+          left.quiet.0;
+      fault = if_story_caused c.deliver.result _ _ _ _ deliver.story;
+      untouched = if_story_alone c.deliver.result _ _ deliver.story;
+    }
+
+pub returns-in_err-name-clause-leaves : goal.returns-in_err-name-clause-leaves
+returns-in_err-name-clause-leaves g c =
+    let files = g.F.Files in let first = c.args.files.now in let told = g.M.Sink.failures c.args.messages.now in
+    let caused : IfErr c.from_residual.result (λ f. Caused f (λ name. IsUnread files first first) (Rose told told)) = search rules in
+    let seen : IfErr c.from_residual.result (λ f. UnlessRead f (files.faults first ≡ files.faults first)) = search rules in
+    let quiet : IfErr c.from_residual.result (λ f. UnlessMessages f (told ≡ told)) = search rules in
+    refused_leaves c.args.story.now c.from_residual.result c.from_residual.ensures.0 caused seen quiet
+
+pub returns-in_err-compiled-clause-leaves : goal.returns-in_err-compiled-clause-leaves
+returns-in_err-compiled-clause-leaves g c =
+    let files = g.F.Files in let first = c.args.files.now in let now = c.translate.new.files in let r = c.translate.result in
+    let x = c.from_residual-in_err-compiled.result in let left = c.translate.ensures.leaves in
+    let before = g.M.Sink.failures c.args.messages.now in let after = g.M.Sink.failures c.translate.new.messages in
+    let was_caused : IfErr r (λ f. Caused f (λ name. IsUnread files first now) (Rose before after)) = left.fault in
+    let caused : IfErr x (λ f. Caused f (λ name. IsUnread files first now) (Rose before after)) = search rules in
+    let was_seen : IfErr r (λ f. UnlessRead f (files.faults now ≡ files.faults first)) = left.seen.1 in
+    let seen : IfErr x (λ f. UnlessRead f (files.faults now ≡ files.faults first)) = search rules in
+    let was_quiet : IfErr r (λ f. UnlessMessages f (after ≡ before)) = left.quiet.1 in
+    let quiet : IfErr x (λ f. UnlessMessages f (after ≡ before)) = search rules in
+    refused_leaves c.args.story.now x c.from_residual-in_err-compiled.ensures.0 caused seen quiet

@@ -9,8 +9,7 @@ returns c = record {
   text_is_missing = text_is_missing;
   names_are_undeclared = names_are_undeclared;
   files_are_included = files_are_included;
-  conditionals_choose = conditionals_choose;
-  conditions_choose = conditions_choose;
+  conditionals_choose = (conditionals_choose, conditions_choose);
   sixteen_are_open = sixteen_are_open;
   hello_is_a_story = hello_is_a_story;
 }

@@ -43,5 +43,5 @@ returns-clause-part g c = λ honest.
     let now = g.S.Sink.taken c.compile.new.story in
     part_written c.compile.result named o c.args.date name before after was now (c.compile.ensures.part honest)
 
-pub returns-clause-clean : goal.returns-clause-clean
-returns-clause-clean g c = c.compile.ensures.clean
+pub returns-clause-leaves : goal.returns-clause-leaves
+returns-clause-leaves g c = c.compile.ensures.leaves
