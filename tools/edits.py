@@ -480,15 +480,31 @@ def told_by(report):
     return set(re.findall(r"^rt: (\w+) (?:proved$|is kept:)", text, re.M)), bool(re.search(r"^\d+ passed, \d+ failed", text, re.M))
 
 
+def time_idle():
+    """Returns how many seconds the processors were idle since the machine was started, or None where the system does not tell."""
+    with contextlib.suppress(OSError, ValueError, IndexError):
+        return int(pathlib.Path("/proc/stat").read_text().split()[4]) / os.sysconf("SC_CLK_TCK")
+
+
+def idle_processors(seconds=2):
+    """Waits so many seconds, and returns how many processors were idle, or None where the system does not tell."""
+    before = time_idle()
+    time.sleep(seconds)
+    after = time_idle()
+    return None if before is None or after is None else round((after - before) / seconds)
+
+
 def results(chosen, every, options):
-    """Gives what becomes of the edits of each crate, in the order in which they end. Those that take longest begin first."""
+    """Gives what becomes of the edits of each crate, in the order in which they end. Those that take longest begin first. As long as the
+    toolchain's gate goes on, a crate's edits begin only on a processor that it leaves idle: beside a busy one they cost twice the time."""
     lanes = len(os.sched_getaffinity(0))
     size = {it.name: sum(file.stat().st_size for part in PARTS for file in (it.folder / part).rglob("*.*")) for it in chosen}
     left, running = sorted(chosen, key=lambda it: -size[it.name]), set()
     with concurrent.futures.ThreadPoolExecutor(lanes) as pool:
         while left or running:
             done, has_ended = told_by(options.report) if options.report else ({it.name for it in left}, True)
-            for crate in [it for it in left if it.name in done][: lanes - len(running)]:
+            free = lanes if has_ended else idle_processors()
+            for crate in [it for it in left if it.name in done][: min(lanes - len(running), lanes if free is None else free)]:
                 jobs = max(1, lanes // (len(left) + len(running)))
                 left.remove(crate)
                 running.add(pool.submit(tried, crate, every, options, jobs))
